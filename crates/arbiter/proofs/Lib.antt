@@ -1,0 +1,14 @@
+pub mod Lists
+pub mod Sums
+pub mod Flags
+pub mod Acceptance
+pub mod Someone
+pub mod Traces
+pub mod Services
+pub mod AtLeast
+pub mod FairBounds
+pub mod Orders
+pub mod Sides
+pub mod Turns
+pub mod Shares
+pub mod HeldLaws

@@ -1,0 +1,2 @@
+pub mod NewPiles
+pub mod LevelBounds

@@ -1,0 +1,6 @@
+pub mod Pairs
+pub mod Bounds
+pub mod Layers
+pub mod Alternations
+pub mod Precedences
+pub mod Alone

@@ -1,0 +1,3 @@
+mod Aligns
+mod Lengths
+mod Writes

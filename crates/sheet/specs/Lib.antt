@@ -1,0 +1,9 @@
+pub mod Columns
+pub mod Fields
+pub mod Rows
+pub mod Lines
+pub mod Refusals
+pub mod Reading
+pub mod Laws
+pub mod Steps
+pub mod Place
