@@ -1,0 +1,12 @@
+pub mod Induction
+pub mod Smallest
+pub mod Latest
+pub mod Worst
+pub mod Comparison
+pub mod Responses
+pub mod Renewal
+pub mod Releases
+pub mod Consistent
+pub mod Counting
+pub mod Limit
+pub mod Rounds
