@@ -1,5 +1,6 @@
 // Follows one task of a sheet through the layers, and says in plain words what was done and which promise covers it.
 mod bounds;
+mod dating;
 mod notes;
 mod reading;
 
@@ -29,6 +30,7 @@ fn run(rt: &LibcRuntime) -> Result<(), AnyError> {
     notes::demands(rt, &plan, row)?;
     if let Some(make) = loaded.make {
         bounds::bounds(rt, &plan, make, row)?;
+        dating::dates(rt, &plan, make, row)?;
     }
     notes::refused_line(rt, bytes.as_slice())
 }
