@@ -33,22 +33,22 @@ overlap d e = ltb (d .release) (finish e) && ltb (e .release) (finish d)
 abbrev pub meets : List Row → List Dates → ℕ → ℕ → Bool
 meets rows table i k = not (eqb (row rows i .place) (row rows k .place)) && overlap (dated table i) (dated table k)
 
--- What task k adds to the load of place o on a bank: its accesses there, if it is at o and meets i.
-abbrev pub share : List Row → List Dates → ℕ → ℕ → ℕ → ℕ → ℕ
-share rows table i bank o k = cond (eqb (row rows k .place) o && meets rows table i k) (accesses (row rows k) bank) 0
+-- What task k adds to the load of place o on a bank: its accesses there, if it is at o and among those that are met.
+abbrev pub share : List Row → (ℕ → Bool) → ℕ → ℕ → ℕ → ℕ
+share rows met bank o k = cond (eqb (row rows k .place) o && met k) (accesses (row rows k) bank) 0
 
--- The load of place o on a bank, as task i sees it: the accesses of all tasks at o that meet i.
-abbrev pub load : List Row → List Dates → ℕ → ℕ → ℕ → ℕ
-load rows table i bank o = sum-below (length rows) (share rows table i bank o)
+-- The load of place o on a bank: the accesses of all tasks at o that are met.
+abbrev pub load : List Row → (ℕ → Bool) → ℕ → ℕ → ℕ
+load rows met bank o = sum-below (length rows) (share rows met bank o)
 
 -- The loads of all 32 sources.
-unfoldable pub loads : List Row → List Dates → ℕ → ℕ → List ℕ
-loads rows table i bank = map (load rows table i bank) (counting 0 32)
+unfoldable pub loads : List Row → (ℕ → Bool) → ℕ → List ℕ
+loads rows met bank = map (load rows met bank) (counting 0 32)
 
 -- The bounds for task i, added up over the banks from this one on, each with its arbiter.
-abbrev pub services : {S : Type 0} → Model S → List Row → List Dates → ℕ → ℕ → List S → ℕ
-services m rows table i bank [] = 0
-services m rows table i bank (a ∷ rest) = m .bound a (row rows i .place) (accesses (row rows i) bank) (loads rows table i bank) + services m rows table i (bank + 1) rest
+abbrev pub services : {S : Type 0} → Model S → List Row → (ℕ → Bool) → ℕ → ℕ → List S → ℕ
+services m rows met i bank [] = 0
+services m rows met i bank (a ∷ rest) = m .bound a (row rows i .place) (accesses (row rows i) bank) (loads rows met bank) + services m rows met i (bank + 1) rest
 
 -- A plan without a head has no latency and no period.
 abbrev pub latency-of : Option Head → ℕ
@@ -59,9 +59,13 @@ abbrev pub period-of : Option Head → ℕ
 period-of None = 0
 period-of (Some h) = h .period
 
--- What task i takes at worst: its cycles, and the latency of each service that its banks' bounds allow for.
+-- What task i takes at most if these tasks are met: its cycles, and the latency of each service that its banks' bounds allow for.
+abbrev pub work : {S : Type 0} → Model S → Plan → List S → ℕ → (ℕ → Bool) → ℕ
+work m p arbiters i met = row (p .rows) i .cycles + latency-of (p .head) * services m (p .rows) met i 0 arbiters
+
+-- What task i takes at worst under these dates.
 abbrev pub worst : {S : Type 0} → Model S → Plan → List S → List Dates → ℕ → ℕ
-worst m p arbiters table i = row (p .rows) i .cycles + latency-of (p .head) * services m (p .rows) table i 0 arbiters
+worst m p arbiters table i = work m p arbiters i (meets (p .rows) table i)
 
 -- What dates are judged for: a plan with a task, one arbiter per bank, none narrower than the places, and a row per task.
 pub record Fits {S : Type 0} (m : Model S) (p : Plan) (arbiters : List S) (table : List Dates) : Type 0 where

@@ -8,7 +8,7 @@ ghost use Rattle.plan.specs.Rules.{places-of};
 ghost use Rattle.arbiter.specs.Answers.{Accepts};
 ghost use Rattle.arbiter.specs.Counts.{limit};
 ghost use Rattle.arbiter.specs.Given.{model};
-ghost use Rattle.check.specs.Sound.{Fits, loads, services, worst};
+ghost use Rattle.check.specs.Sound.{loads, meets, services, worst, Fits};
 use crate::dates::Dates;
 use crate::loads::count_loads;
 use crate::rows::head_of;
@@ -36,7 +36,7 @@ fn bank_services<A: Arbiter>(
     bank: usize,
 ) -> u64
     requires { ⌜ i < length (closed (now plan) .rows) ⌝ ∗ ⌜ length (closed (now plan) .rows) ≤ length (now dates) ⌝ ∗ ⌜ bank < 16 ⌝ ∗ ⌜ places-of (closed (now plan) .head) ≤ model A·Arbiter .width (now arbiter) ⌝ }
-    ensures value { λ r. ⌜ r ≡ model A·Arbiter .bound (now (arbiter .entry)) (row (closed (now (plan .entry)) .rows) i .place) (accesses (row (closed (now (plan .entry)) .rows) i) bank) (loads (closed (now (plan .entry)) .rows) (now (dates .entry)) i bank) ⌝ }
+    ensures value { λ r. ⌜ r ≡ model A·Arbiter .bound (now (arbiter .entry)) (row (closed (now (plan .entry)) .rows) i .place) (accesses (row (closed (now (plan .entry)) .rows) i) bank) (loads (closed (now (plan .entry)) .rows) (meets (closed (now (plan .entry)) .rows) (now (dates .entry)) i) bank) ⌝ }
     ensures bound { λ r. ⌜ r ≤ limit ⌝ }
 {
     let task = task_at(plan, i);
@@ -47,7 +47,7 @@ fn bank_services<A: Arbiter>(
 // The same over all banks.
 fn count_services<A: Arbiter>(plan: &ClosedPlan, arbiters: &[A], dates: &[Dates], i: usize) -> u64
     requires { ⌜ Fits (model A·Arbiter) (closed (now plan)) (now arbiters) (now dates) ⌝ ∗ ⌜ i < length (closed (now plan) .rows) ⌝ }
-    ensures value { λ r. ⌜ r ≡ services (model A·Arbiter) (closed (now (plan .entry)) .rows) (now (dates .entry)) i 0 (now (arbiters .entry)) ⌝ }
+    ensures value { λ r. ⌜ r ≡ services (model A·Arbiter) (closed (now (plan .entry)) .rows) (meets (closed (now (plan .entry)) .rows) (now (dates .entry)) i) i 0 (now (arbiters .entry)) ⌝ }
     ensures bound { λ r. ⌜ r ≤ 268431360 ⌝ }
 {
     let mut count = 0;

@@ -12,8 +12,8 @@ use Rattle.plan.specs.declared.closed.ClosedPlan.{ClosedPlan}
 use Rattle.plan.proofs.Keeping.{few-banks}
 use Rattle.arbiter.specs.Given.{model}
 use Rattle.arbiter.specs.Meaning.{Model}
-use Rattle.check.specs.Sound.{services}
-use Rattle.check.proofs.Limits.{services-few, services-more}
+use Rattle.check.specs.Sound.{meets, services}
+use Rattle.check.proofs.Limits.{meets-alone, services-few, services-more}
 use Rattle.check.proofs.Reading.{kept-of}
 use Rattle.check.proofs.worst.count_services.Needs as need
 
@@ -44,7 +44,7 @@ add-count g c = omega (arith, c .loop-bank .inv .1, c .bank-services-count .ensu
 pub loop-bank-again : need.loop-bank-again
 loop-bank-again g c =
     let plan = c .args .plan .now in (
-      omega (arith, c .loop-bank .inv .0, c .bank-services-count .ensures .value, services-more (closed plan) (kept-of plan) (c .args .dates .now) (model (g .A·Arbiter)) (g .A·Arbiter·met .lawful) (c .args .i) (c .loop-bank .bank) (c .args .arbiters .now) (c .index-arbiters-bank .result) (c .loop-bank-test .taken) (c .index-arbiters-bank .is)),
+      omega (arith, c .loop-bank .inv .0, c .bank-services-count .ensures .value, services-more (closed plan) (kept-of plan) (meets (closed plan .rows) (c .args .dates .now) (c .args .i)) (model (g .A·Arbiter)) (g .A·Arbiter·met .lawful) (c .args .i) (c .loop-bank .bank) (c .args .arbiters .now) (c .index-arbiters-bank .result) (c .loop-bank-test .taken) (c .index-arbiters-bank .is)),
       omega (arith, c .loop-bank .inv .1, c .bank-services-count .ensures .bound),
     )
 
@@ -53,6 +53,6 @@ returns g c =
     let m = model (g .A·Arbiter) in
     let plan = c .args .plan .now in
     let arbiters = c .args .arbiters .now in
-    let none = ap (services m (closed plan .rows) (c .args .dates .now) (c .args .i) (c .loop-bank .bank)) (drop-all (c .loop-bank .bank) arbiters (c .loop-bank-test .left)) in
-    let all : c .loop-bank .count ≡ services m (closed plan .rows) (c .args .dates .now) (c .args .i) 0 arbiters = omega (arith, c .loop-bank .inv .0, none) in
-    record { value = all; bound = omega (arith, all, services-few (closed plan) (kept-of plan) (c .args .dates .now) m (g .A·Arbiter·met .lawful) arbiters (c .args .i) (c .pre .0) (c .pre .1)) }
+    let none = ap (services m (closed plan .rows) (meets (closed plan .rows) (c .args .dates .now) (c .args .i)) (c .args .i) (c .loop-bank .bank)) (drop-all (c .loop-bank .bank) arbiters (c .loop-bank-test .left)) in
+    let all : c .loop-bank .count ≡ services m (closed plan .rows) (meets (closed plan .rows) (c .args .dates .now) (c .args .i)) (c .args .i) 0 arbiters = omega (arith, c .loop-bank .inv .0, none) in
+    record { value = all; bound = omega (arith, all, services-few (closed plan) (kept-of plan) (meets (closed plan .rows) (c .args .dates .now) (c .args .i)) m (g .A·Arbiter·met .lawful) arbiters (c .args .i) (omega (arith, c .pre .0 .one-per-bank, few-banks (closed plan .head) (kept-of plan .headed))) (c .pre .0 .wide) (c .pre .1) (meets-alone (closed plan .rows) (c .args .dates .now) (c .args .i))) }
