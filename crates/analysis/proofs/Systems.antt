@@ -1,29 +1,27 @@
 -- Plans with lawful arbiters are lawful systems of tasks.
 -- Assumes nothing.
-use mathlib.Core.Path.{_≡_, refl, ap}
+use mathlib.Core.Path.{_≡_, refl}
 use mathlib.Core.Bool.{Bool, true, false, cond, _&&_}
 use mathlib.Core.List.{List, [], _∷_}
-use mathlib.Core.Logic.{_≢_}
-use Prim.Native.Nat.{ℕ, _+_, _*_, _≤_, _<_}
+use Prim.Native.Nat.{ℕ, _+_, _≤_, _<_}
 use native.Mathlib.Nat.{mul-le-mul-left}
 use native.Mathlib.Omega.{arith}
 use lib.Dec.{eqb}
 use lib.ListN.{length, getD}
 use Rattle.std.specs.shelf.Lists.{All}
-use Rattle.plan.specs.Rows.{Plan, Row, accesses, row}
+use Rattle.plan.specs.Rows.{Plan, accesses, row}
 use Rattle.plan.specs.Rules.{Kept, places-of}
 use Rattle.plan.proofs.Waiting.{waits-below}
 use Rattle.arbiter.specs.Laws as arbiters-keep
 use Rattle.arbiter.specs.Meaning.{Model}
 use Rattle.arbiter.proofs.Sums.{sum-below-le}
-use Rattle.check.specs.declared.dates.Dates.{Dates}
-use Rattle.check.specs.Sound.{dated, finish, latency-of, load, loads, period-of, services, share, Sound, work}
+use Rattle.check.specs.Sound.{latency-of, loads, services, share}
 use Rattle.check.proofs.Counting.{loads-at}
 use Rattle.check.proofs.Limits.{bound-accepted}
 use Rattle.consistency.specs.System as systems
 use Rattle.consistency.specs.Theorem.{Dates-are-determined, Rounds-end}
 use Rattle.consistency.proofs.Consistent.{balanced, in-order, not-early}
-use Rattle.analysis.specs.Plans.{Consistent-dates, Dated, Plans-are-dated, system}
+use Rattle.analysis.specs.Plans.{Dated, system}
 
 module _ {S : Type 0} (m : Model S) (laws : arbiters-keep.Lawful m) (p : Plan) (kept : Kept p) where
   -- More tasks that are met add no less.

@@ -24,7 +24,7 @@ use Rattle.sheet.specs.declared.faults.Fault.{Fault}
 use Rattle.loader.specs.declared.noting.Loaded.{Loaded}
 use Rattle.loader.specs.Faults.{read-fault, row-fault}
 use Rattle.loader.specs.Loading.{Entered, Loads, Noted, Notes, row-at, Stopped, Stops, refused, starved, unread}
-use Rattle.loader.specs.Rows.{all-taken, make-after, name-in, taken}
+use Rattle.loader.specs.Rows.{Grows, all-taken, make-after, name-in, taken}
 
 -- k rows of the sheet are taken, and the rest is what remains to be read.
 pub record Progress (old : Plan) (sheet : Reading) (k : ℕ) (rest : Reading) (l : Loaded) (new : Plan) : Type 0 where
@@ -78,7 +78,7 @@ module _ {old : Plan} {sheet : Reading} {k : ℕ} {rest : Reading} {l : Loaded} 
         rows = at .taken ∙ ap Ok (sym (t .0));
         why = ⊎-elim
             (λ r. refused f (up .0) (ap (λ y. taken next y) (up .1) ∙ ap (λ p. taken p x) (t .0) ∙ r))
-            (λ m. subst (λ g. Stops sheet k next (row-fault (k + 1) g)) (sym m) (starved (up .0)))
+            (λ m. subst (λ g. Stops sheet k next (row-fault (k + 1) g)) (sym (m .0)) (starved (up .0) (subst Grows (sym (up .1)) (m .1))))
             (t .1);
       }
 

@@ -18,16 +18,16 @@ use Rattle.sheet.specs.declared.faults.Fault.{Fault}
 use Rattle.loader.specs.declared.faults.LoadFault.{LoadFault}
 use Rattle.loader.specs.declared.noting.Loaded.{Loaded}
 use Rattle.loader.specs.Faults.{read-fault, row-fault}
-use Rattle.loader.specs.Rows.{all-taken, make-after, make-in, name-in, names-in, taken}
+use Rattle.loader.specs.Rows.{Grows, all-taken, make-after, make-in, name-in, names-in, taken}
 
 -- Row k of a list of rows; only rows below their number mean anything.
 abbrev pub row-at : List Row → ℕ → Row
 row-at xs k = getD xs k (dependency 0)
 
--- A row was taken; or the plan stays as it was, since the row is refused or memory is wanting.
+-- A row was taken; or the plan stays as it was, since the row is refused or finds no memory.
 abbrev pub Entered : Plan → Row → Result (Unit {0}) Refusal → Plan → Type 0
 Entered old x (Ok u) new = taken old x ≡ Ok new
-Entered old x (Err refusal) new = (new ≡ old) × ((taken old x ≡ Err refusal) ⊎ (refusal ≡ Memory))
+Entered old x (Err refusal) new = (new ≡ old) × ((taken old x ≡ Err refusal) ⊎ ((refusal ≡ Memory) × Grows x))
 
 -- The make of the head and the names of the tasks among these rows.
 pub record Noted (l : Loaded) (xs : List Row) : Type 0 where
@@ -39,11 +39,11 @@ pub record Notes (old : Loaded) (x : Row) (new : Loaded) : Type 0 where
   pub make : new .make ≡ make-after (old .make) x
   pub names : map (λ n. n .now) (vec-items (new .names)) ≡ map (λ n. n .now) (vec-items (old .names)) ++ name-in x
 
--- Why the line after k good ones stops the loading: it cannot be read, its row is refused by the plan as it then is, or memory is wanting.
+-- Why the line after k good ones stops the loading: it cannot be read, its row is refused by the plan as it then is, or it is a row that makes the plan larger and finds no memory.
 pub data Stops (sheet : Reading) (k : ℕ) (p : Plan) : LoadFault → Type 0 where
   unread : (f : Fault) → sheet .fault ≡ Some f → k ≡ length (sheet .rows) → f .line ≡ k + 1 → Stops sheet k p (read-fault f)
   refused : (refusal : Refusal) → k < length (sheet .rows) → taken p (row-at (sheet .rows) k) ≡ Err refusal → Stops sheet k p (row-fault (k + 1) refusal)
-  starved : k < length (sheet .rows) → Stops sheet k p (row-fault (k + 1) Memory)
+  starved : k < length (sheet .rows) → Grows (row-at (sheet .rows) k) → Stops sheet k p (row-fault (k + 1) Memory)
 
 -- Loading stopped behind k good lines, whose rows are all in the plan.
 pub record Stopped (old : Plan) (sheet : Reading) (fault : LoadFault) (new : Plan) : Type 0 where

@@ -30,6 +30,13 @@ taken p (task place cycles earliest name) = granted (task-refusal p place cycles
 taken p (demand bank count) = granted (demand-refusal p bank count) (with-demand p bank count)
 taken p (dependency row) = granted (after-refusal p row) (with-after p row)
 
+-- Only a task and a named row make a plan larger, so only they can find no memory.
+abbrev pub Grows : Row → Type 0
+Grows (head make places banks latency period) = ⊥
+Grows (task place cycles earliest name) = Unit {0}
+Grows (demand bank count) = ⊥
+Grows (dependency row) = Unit {0}
+
 -- Rows taken one after the other, up to the first that is refused.
 abbrev pub all-taken : Plan → List Row → Result Plan Refusal
 all-taken p [] = Ok p

@@ -52,13 +52,13 @@ fn table(
     Ok(dates)
 }
 
-// The row that a refusal names; 0 for those that name none.
-fn row_of(refusal: Refusal) -> usize {
+// The row that a refusal names, if it names one.
+fn named_row(refusal: Refusal) -> Option<usize> {
     match refusal {
-        Refusal::Early(row) => row,
-        Refusal::Short(row) => row,
-        Refusal::Late(row) => row,
-        _ => 0,
+        Refusal::Early(row) => Some(row),
+        Refusal::Short(row) => Some(row),
+        Refusal::Late(row) => Some(row),
+        _ => None,
     }
 }
 
@@ -76,8 +76,10 @@ fn verdict<A: Arbiter>(
         )?,
         Err(refusal) => {
             let number = refusal.number();
-            let row = row_of(refusal);
-            println!(rt, "  {what}: refused with {number} at row {row}.")?
+            match named_row(refusal) {
+                Some(row) => println!(rt, "  {what}: refused with {number} at row {row}.")?,
+                None => println!(rt, "  {what}: refused with {number}.")?,
+            }
         }
     }
     Ok(())

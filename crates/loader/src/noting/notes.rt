@@ -4,6 +4,7 @@ ghost use Rattle.std.specs.Results.{Cases};
 ghost use Rattle.plan.specs.declared.rows.Refusal.the-variants.{Memory};
 ghost use Rattle.sheet.specs.Rows.{row-of};
 ghost use Rattle.loader.specs.Loading.{Noted, Notes};
+ghost use Rattle.loader.specs.Rows.{Grows};
 ghost use mathlib.Core.Path.{_≡_};
 use crate::noting::Loaded;
 use plan::rows::Refusal;
@@ -22,7 +23,7 @@ impl<'a> Loaded<'a> {
     }
 
     pub(crate) fn note(&mut self, line: Line<'a>) -> Result<(), Refusal>
-        ensures { λ r. ⌜ Cases r (λ _. Notes (now (self .entry)) (row-of (line .entry)) (now (self .exit))) (λ e. e ≡ Memory) ⌝ }
+        ensures { λ r. ⌜ Cases r (λ _. Notes (now (self .entry)) (row-of (line .entry)) (now (self .exit))) (λ e. (e ≡ Memory) × Grows (row-of (line .entry))) ⌝ }
     {
         match line {
             Line::Head {
