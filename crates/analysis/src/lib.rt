@@ -1,4 +1,6 @@
 // The dates of plans: every plan has one table of consistent dates, the analysis finds it, and where it fits the period it is sound.
+#![tactic(auto)]
+
 mod alone;
 mod analysing;
 mod dating;

@@ -1,4 +1,6 @@
 // Answers a sheet by its listing: the dates of its tasks, a late row, or a fault.
+#![tactic(auto)]
+
 mod answering;
 mod arbiters;
 mod dating;

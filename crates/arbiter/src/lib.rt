@@ -1,4 +1,6 @@
 // Arbiters: which source of a memory bank is served next.
+#![tactic(auto)]
+
 ghost use Rattle.std.specs.Prelude.{◌≡◌, ℕ, Bool, Option as Opt};
 ghost use Rattle.arbiter.specs.Meaning.{Moves, meaning};
 ghost use Rattle.arbiter.specs.Laws.{Lawful};

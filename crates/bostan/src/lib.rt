@@ -1,4 +1,6 @@
 // The pile of arbiters in front of a memory bank of a Bostan cluster.
+#![tactic(auto)]
+
 ghost use Rattle.std.specs.Prelude.{◌≡◌, true};
 ghost use Rattle.arbiter.specs.Laws.{Lawful};
 ghost use Rattle.rings.specs.Rings.{NewRing};

@@ -1,4 +1,6 @@
 // Loads each sheet of a folder, and prints what came of it: the fault or none, and how many tasks the plan then has.
+#![tactic(auto)]
+
 use loader::loading::load;
 use plan::open::OpenPlan;
 use std::fs;

@@ -1,4 +1,6 @@
 // The check: are dates sound for a plan and its arbiters? It knows nothing of how they were found.
+#![tactic(auto)]
+
 mod checking;
 mod conditions;
 mod dates;

@@ -1,4 +1,6 @@
 // The rules of a run: what a cluster is made of, and what asks and cycles make of it.
+#![tactic(auto)]
+
 mod breach;
 mod place;
 mod refusal;

@@ -1,4 +1,6 @@
 // The theory of consistent dates: there is one table of them, and the rounds find it.
+#![tactic(auto)]
+
 ghost use Rattle.std.specs.Prelude.{◌≡◌, true};
 ghost use Rattle.consistency.specs.Theorem.{DatesAreDetermined, RoundsEnd};
 

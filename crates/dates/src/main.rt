@@ -1,4 +1,6 @@
 // Reads a sheet from standard input and prints its listing.
+#![tactic(auto)]
+
 use answering::answer_sheet;
 use anyhow::anyhow;
 use std::io::{Read, Write};

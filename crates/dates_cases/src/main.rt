@@ -1,5 +1,7 @@
 // Answers the sheets of two files, and compares each listing with the expected one: cases worked by hand, and cases whose
 // listings another program wrote.
+#![tactic(auto)]
+
 mod cases;
 mod comparing;
 

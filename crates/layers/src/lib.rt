@@ -1,4 +1,6 @@
 // Layers: arbiters made of two arbiters of any make.
+#![tactic(auto)]
+
 mod alternation;
 mod lawful;
 mod pair;

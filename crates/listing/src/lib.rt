@@ -1,4 +1,6 @@
 // The listing of an answer, written into memory that the caller lends.
+#![tactic(auto)]
+
 mod answer;
 mod columns;
 mod lines;

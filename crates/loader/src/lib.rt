@@ -1,4 +1,6 @@
 // Loads a sheet into an open plan, line by line.
+#![tactic(auto)]
+
 mod entering;
 pub mod faults;
 pub mod loading;

@@ -1,4 +1,6 @@
 // Follows one task of a sheet through the layers, and says in plain words what was done and which promise covers it.
+#![tactic(auto)]
+
 mod bounds;
 mod dating;
 mod making;

@@ -1,4 +1,6 @@
 // Replays files of cases through the libraries, and says where an answer is not the expected one.
+#![tactic(auto)]
+
 mod arbiters;
 mod calls;
 mod case;

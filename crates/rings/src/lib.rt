@@ -1,4 +1,6 @@
 // Rings: arbiters that serve their sources in turn.
+#![tactic(auto)]
+
 mod lawful;
 mod ring;
 

@@ -1,4 +1,6 @@
 // The run of a cluster.
+#![tactic(auto)]
+
 mod state;
 
 pub use state::{Refused, Run};

@@ -1,4 +1,6 @@
 // No run breaches sound dates.
+#![tactic(auto)]
+
 mod unbreached;
 
 pub use unbreached::never_breached;

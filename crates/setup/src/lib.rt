@@ -1,4 +1,6 @@
 // What is asked before a run is set up.
+#![tactic(auto)]
+
 mod conditions;
 mod heads;
 

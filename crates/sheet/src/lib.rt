@@ -1,4 +1,6 @@
 // Reads a sheet line by line: the head of a plan, its tasks, their demands and their dependencies.
+#![tactic(auto)]
+
 mod cutting;
 pub mod faults;
 mod fields;

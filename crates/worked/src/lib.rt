@@ -1,4 +1,6 @@
 // The cases worked by hand, shown of the definitions.
+#![tactic(auto)]
+
 ghost use Rattle.std.specs.Prelude.{◌≡◌, true};
 ghost use Rattle.worked.specs.Worked.{WorkedByHand};
 
