@@ -6,10 +6,10 @@ use Rattle.plan.specs.Rows.{Plan}
 use Rattle.plan.specs.Rules.{Kept, banks_of, places_of}
 use Rattle.arbiter.specs.Laws as arbiters_keep
 use Rattle.arbiter.specs.Meaning.{Model}
-use Rattle.check.specs.declared.dates.Dates.{Dates}
-use Rattle.check.specs.Sound.{Fits, Sound, period_of}
-use Rattle.check.specs.Verdict.{all_wide, arbiters_fit}
-use Rattle.check.proofs.Passing.{wide_all}
+use Rattle.date_check.specs.declared.dates.Dates.{Dates}
+use Rattle.date_check.specs.Sound.{Fits, Sound, period_of}
+use Rattle.date_check.specs.Verdict.{all_wide, arbiters_fit}
+use Rattle.date_check.proofs.Passing.{wide_all}
 use Rattle.consistency.specs.Dates.{Rounds, Same, Table, finish}
 use Rattle.consistency.specs.System.{Lawful, System}
 use Rattle.consistency.proofs.Consistent.{unmoved_consistent}

@@ -7,9 +7,9 @@ use Rattle.plan.specs.Rows.{Plan, Row, accesses, row}
 use Rattle.plan.specs.Rules.{Kept}
 use Rattle.arbiter.specs.Counts.{limit, sum_below}
 use Rattle.arbiter.proofs.Sums.{sum_below_le, sum_below_zero}
-use Rattle.check.specs.Sound.{load, loads, share}
-use Rattle.check.proofs.Counting.{counted_all, loads_at, loads_length, loads_most}
-use Rattle.check.proofs.Limits.{load_within}
+use Rattle.date_check.specs.Sound.{load, loads, share}
+use Rattle.date_check.proofs.Counting.{counted_all, loads_at, loads_length, loads_most}
+use Rattle.date_check.proofs.Limits.{load_within}
 use Rattle.analysis.specs.Workings.{marked}
 
 -- Nobody is met, and nothing is loaded.

@@ -6,8 +6,8 @@ use Rattle.std.proofs.lemmas.Bool.{cases_eq, cond_both, eq-eqb, eqb-true, eqb-fa
 use Rattle.plan.specs.Rows.{Plan, Row, row}
 use Rattle.plan.specs.Rules.{Kept, member}
 use Rattle.plan.specs.Waits.{holds, latest_at, previous_of, waits_for}
-use Rattle.check.proofs.Finishing.{latest_earlier, member_at, member_every}
-use Rattle.check.proofs.Reading.{few_places}
+use Rattle.date_check.proofs.Finishing.{latest_earlier, member_at, member_every}
+use Rattle.date_check.proofs.Reading.{few_places}
 use Rattle.consistency.specs.Dates.{Table, finish, latest}
 use Rattle.consistency.proofs.Latest.{latest_first, latest_least, latest_marked, latest_same}
 use Rattle.analysis.specs.Workings.{LatestOf}

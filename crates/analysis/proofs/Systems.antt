@@ -8,10 +8,10 @@ use Rattle.plan.proofs.Waiting.{waits_below}
 use Rattle.arbiter.specs.Laws as arbiters_keep
 use Rattle.arbiter.specs.Meaning.{Model}
 use Rattle.arbiter.proofs.Sums.{sum_below_le}
-use Rattle.check.specs.declared.dates.Dates.{Dates}
-use Rattle.check.specs.Sound.{Sound, dated, finish, latency_of, loads, period_of, services, share}
-use Rattle.check.proofs.Counting.{loads_at}
-use Rattle.check.proofs.Limits.{bound_accepted}
+use Rattle.date_check.specs.declared.dates.Dates.{Dates}
+use Rattle.date_check.specs.Sound.{Sound, dated, finish, latency_of, loads, period_of, services, share}
+use Rattle.date_check.proofs.Counting.{loads_at}
+use Rattle.date_check.proofs.Limits.{bound_accepted}
 use Rattle.consistency.specs.System as systems
 use Rattle.consistency.specs.Theorem.{DatesAreDetermined, RoundsEnd}
 use Rattle.consistency.proofs.Consistent.{balanced, in_order, not_early}

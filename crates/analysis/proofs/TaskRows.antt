@@ -7,7 +7,7 @@ use Rattle.plan.specs.declared.rows.Task.{Task}
 use Rattle.plan.specs.Rows.{row, row_of}
 use Rattle.plan.specs.Rules.{Kept, member}
 use Rattle.plan.proofs.Views.{row_at}
-use Rattle.check.proofs.Reading.{few_places}
+use Rattle.date_check.proofs.Reading.{few_places}
 use Rattle.analysis.specs.Workings.{planned}
 
 module _ (head : Head) (tasks : List Task) (kept : Kept (planned head tasks)) where

@@ -7,8 +7,8 @@ use Rattle.plan.specs.Rows.{row_of}
 use Rattle.plan.proofs.Keeping.{few_banks}
 use Rattle.arbiter.specs.Laws as arbiters_keep
 use Rattle.arbiter.specs.Meaning.{Model}
-use Rattle.check.specs.Sound.{work}
-use Rattle.check.proofs.Limits.{work_limit}
+use Rattle.date_check.specs.Sound.{work}
+use Rattle.date_check.proofs.Limits.{work_limit}
 use Rattle.consistency.specs.Dates.{Table, alone, meets, worst}
 use Rattle.consistency.specs.System.{Lawful}
 use Rattle.analysis.specs.declared.tables.Meetings.{Meetings}

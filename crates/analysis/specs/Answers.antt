@@ -2,9 +2,9 @@
 use Rattle.std.specs.Prelude.{◌≡◌, ℕ, ◌-◌, ◌*◌, ◌<◌, ◌≤◌, true, false, List, length, Ok, Err, Result}
 use Rattle.plan.specs.Rows.{Plan}
 use Rattle.arbiter.specs.Meaning.{Model}
-use Rattle.check.specs.declared.dates.Dates.{Dates}
-use Rattle.check.specs.Sound.{Fits, dated, period_of}
-use Rattle.check.specs.Verdict.{arbiters_fit}
+use Rattle.date_check.specs.declared.dates.Dates.{Dates}
+use Rattle.date_check.specs.Sound.{Fits, dated, period_of}
+use Rattle.date_check.specs.Verdict.{arbiters_fit}
 use Rattle.consistency.specs.Dates.{Table, Consistent, Rounds, finish}
 use Rattle.analysis.specs.declared.refusal.Refusal.{Refusal}
 use Rattle.analysis.specs.declared.refusal.Refusal.TheVariants as refused

@@ -7,8 +7,8 @@ use Rattle.plan.specs.Rows.{Plan, Row, plan_of, row}
 use Rattle.plan.specs.Rules.{Kept, banks_of, places_of}
 use Rattle.plan.specs.Waits.{waits_for}
 use Rattle.arbiter.specs.Meaning.{Model}
-use Rattle.check.specs.declared.dates.Dates.{Dates}
-use Rattle.check.specs.Sound.{dated, loads}
+use Rattle.date_check.specs.declared.dates.Dates.{Dates}
+use Rattle.date_check.specs.Sound.{dated, loads}
 use Rattle.consistency.specs.Dates.{BelowSmallest, Table, finish, latest, worst}
 use Rattle.consistency.specs.System.{System}
 use Rattle.analysis.specs.declared.tables.Column.{Column}

@@ -2,14 +2,14 @@
 ghost use Rattle.std.specs.Prelude.{◌≡◌, ◌≤◌, length, Some, MatchOption, OnOk};
 ghost use Rattle.plan.specs.Plans.{closed};
 ghost use Rattle.arbiter.specs.Given.{model};
-ghost use Rattle.check.specs.Sound.{Fits, Sound};
+ghost use Rattle.date_check.specs.Sound.{Fits, Sound};
 ghost use Rattle.analysis.specs.Answers.{Answer};
 
 use crate::questions::arbiters_match;
 use crate::refusal::Refusal;
 use crate::rounds::find_dates;
 use arbiter::Arbiter;
-use check::Dates;
+use date_check::Dates;
 use plan::closed::ClosedPlan;
 use plan::rows::Head;
 

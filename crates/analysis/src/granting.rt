@@ -6,7 +6,7 @@ ghost use Rattle.analysis.specs.Workings.{Decided, LowestLate, Under, Written, c
 
 use crate::refusal::Refusal;
 use crate::tables::Found;
-use check::Dates;
+use date_check::Dates;
 
 impl Found {
     fn finish(&self, row: usize) -> u64

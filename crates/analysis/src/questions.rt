@@ -1,7 +1,7 @@
 // What is asked of the arbiters before any date is computed.
 ghost use Rattle.std.specs.Prelude.{◌≡◌, ◌&&◌, length, ◌==◌};
 ghost use Rattle.arbiter.specs.Given.{model};
-ghost use Rattle.check.specs.Verdict.{all_wide};
+ghost use Rattle.date_check.specs.Verdict.{all_wide};
 
 use arbiter::Arbiter;
 use plan::rows::Head;

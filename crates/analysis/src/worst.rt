@@ -3,7 +3,7 @@ ghost use Rattle.std.specs.Prelude.{◌≡◌, ◌^◌, ◌<◌, false, map, len
 ghost use Rattle.plan.specs.Rows.{row_of};
 ghost use Rattle.arbiter.specs.Answers.{Accepts};
 ghost use Rattle.arbiter.specs.Given.{model};
-ghost use Rattle.check.specs.Sound.{work};
+ghost use Rattle.date_check.specs.Sound.{work};
 ghost use Rattle.analysis.specs.Workings.{Asked, Loaded, marked, planned};
 
 use crate::tables::Meetings;

@@ -4,7 +4,7 @@ use Rattle.std.proofs.Common.{◌≡◌, ℕ, zero, suc, ◌≤◌, List, [], ma
 use Rattle.std.proofs.lemmas.List.{length-map}
 use Rattle.plan.specs.Rows.{Plan}
 use Rattle.plan.specs.Rules.{Kept}
-use Rattle.check.proofs.Reading.{no_head}
+use Rattle.date_check.proofs.Reading.{no_head}
 use Rattle.sheet.specs.Reading.{whole_reading}
 use Rattle.loader.specs.declared.faults.LoadFault.{LoadFault}
 use Rattle.loader.specs.declared.noting.Loaded.{Loaded}

@@ -2,7 +2,7 @@
 -- Assumes nothing.
 use Rattle.std.proofs.Common.{◌≡◌, ℕ, ◌+◌, ◌<◌, ◌≤◌, List, [], ◌∷◌, ◌++◌, map, length, get_or, take, sym, refl, ap, ◌∙◌, Bor, MutBor}
 use Rattle.std.proofs.lemmas.List.{map_push, take_all, take_more}
-use Rattle.check.specs.declared.dates.Dates.{Dates}
+use Rattle.date_check.specs.declared.dates.Dates.{Dates}
 use Rattle.listing.specs.declared.answer.Row.{Row}
 use Rattle.answering.specs.Listings.{RowsOf}
 

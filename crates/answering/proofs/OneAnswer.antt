@@ -8,10 +8,10 @@ use Rattle.plan.specs.Rows.{Plan}
 use Rattle.plan.specs.Rules.{Kept, places_of}
 use Rattle.arbiter.specs.Meaning.{Model}
 use Rattle.sheet.specs.Columns.{column, justified}
-use Rattle.check.specs.declared.dates.Dates.{Dates}
-use Rattle.check.specs.Keeping.{AllKeep}
-use Rattle.check.specs.Sound.{Fits, dated, period_of}
-use Rattle.check.specs.Verdict.{arbiters_fit}
+use Rattle.date_check.specs.declared.dates.Dates.{Dates}
+use Rattle.date_check.specs.Keeping.{AllKeep}
+use Rattle.date_check.specs.Sound.{Fits, dated, period_of}
+use Rattle.date_check.specs.Verdict.{arbiters_fit}
 use Rattle.consistency.specs.Dates.{Consistent, Rounds, Same, Table, finish}
 use Rattle.consistency.specs.System.{System}
 use Rattle.analysis.specs.Answers as analysis

@@ -12,10 +12,10 @@ use Rattle.arbiter.specs.Meaning.{Keeps, Model}
 use Rattle.rings.specs.Rings.{NewRing, ring}
 use Rattle.rings.specs.declared.ring.Ring.{Ring}
 use Rattle.bostan.specs.Piles.{NewPile, Pile, bostan}
-use Rattle.check.specs.declared.dates.Dates.{Dates}
-use Rattle.check.specs.Keeping.{AllKeep}
-use Rattle.check.specs.Sound.{Fits, latency_of, loads, services}
-use Rattle.check.specs.Verdict.{all_wide, arbiters_fit}
+use Rattle.date_check.specs.declared.dates.Dates.{Dates}
+use Rattle.date_check.specs.Keeping.{AllKeep}
+use Rattle.date_check.specs.Sound.{Fits, latency_of, loads, services}
+use Rattle.date_check.specs.Verdict.{all_wide, arbiters_fit}
 use Rattle.consistency.specs.System.{System}
 use Rattle.analysis.specs.Plans.{system}
 

@@ -14,7 +14,7 @@ use Rattle.arbiter.specs.Meaning.{Model}
 use Rattle.rings.specs.Rings.{NewRing, ring}
 use Rattle.rings.specs.declared.ring.Ring.{Ring}
 use Rattle.bostan.specs.Piles.{NewPile, Pile, bostan}
-use Rattle.check.specs.declared.dates.Dates.{Dates}
+use Rattle.date_check.specs.declared.dates.Dates.{Dates}
 use Rattle.analysis.specs.Answers as analysis
 use Rattle.analysis.specs.declared.refusal.Refusal.{Refusal}
 use Rattle.analysis.specs.declared.refusal.Refusal.TheVariants.{NoTask, Arbiters, Table, Late}

@@ -10,7 +10,7 @@ use crate::rows::{named_rows, new_table};
 use crate::writing::{write, write_fault};
 use analysis::{Refusal, analyse};
 use arbiter::Arbiter;
-use check::Dates;
+use date_check::Dates;
 use listing::Answer;
 use plan::closed::ClosedPlan;
 use std::alloc::Global;

@@ -3,7 +3,7 @@ ghost use Rattle.std.specs.Prelude.{◌≡◌, map, length, IfOk};
 ghost use Rattle.answering.specs.Listings.{RowsOf};
 
 use crate::memory::OutOfMemory;
-use check::Dates;
+use date_check::Dates;
 use listing::Row;
 use std::alloc::Global;
 

@@ -1,5 +1,5 @@
 // Scan and steam on a ring of two places, with one bank, latency 1 and period 20.
-use check::{Dates, Refusal, check};
+use date_check::{Dates, Refusal, check};
 use plan::closed::ClosedPlan;
 use plan::open::OpenPlan;
 use plan::rows::{Head, Refusal as PlanRefusal};

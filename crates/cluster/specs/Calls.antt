@@ -6,9 +6,9 @@ use Rattle.plan.specs.Rules.{banks_of, between, places_of}
 use Rattle.arbiter.specs.Answers.{post_answer, someone}
 use Rattle.arbiter.specs.Meaning.{Model}
 use Rattle.arbiter.specs.declared.refusal.Refusal as arbiters
-use Rattle.check.specs.declared.dates.Dates.{Dates}
-use Rattle.check.specs.Sound.{dated, finish, latency_of, period_of}
-use Rattle.check.specs.Verdict.{arbiters_fit}
+use Rattle.date_check.specs.declared.dates.Dates.{Dates}
+use Rattle.date_check.specs.Sound.{dated, finish, latency_of, period_of}
+use Rattle.date_check.specs.Verdict.{arbiters_fit}
 use Rattle.cluster.specs.declared.breach.Breach.{Breach}
 use Rattle.cluster.specs.declared.place.Place.{Place}
 use Rattle.cluster.specs.declared.place.Place.TheVariants as places

@@ -6,8 +6,8 @@ use Rattle.plan.specs.Rules.{banks_of, places_of}
 use Rattle.plan.specs.Waits.{waits_for}
 use Rattle.arbiter.specs.Answers.{AfterPick}
 use Rattle.arbiter.specs.Meaning.{Model}
-use Rattle.check.specs.declared.dates.Dates.{Dates}
-use Rattle.check.specs.Sound.{dated, finish, latency_of, period_of}
+use Rattle.date_check.specs.declared.dates.Dates.{Dates}
+use Rattle.date_check.specs.Sound.{dated, finish, latency_of, period_of}
 use Rattle.cluster.specs.declared.breach.Breach.{Breach}
 use Rattle.cluster.specs.declared.breach.Breach.TheVariants.{Overdue, Unready}
 use Rattle.cluster.specs.declared.place.Job.{Job}

@@ -10,7 +10,7 @@ use Rattle.arbiter.proofs.Someone.{someone_at, no_one, the_one, nobody_at}
 use Rattle.layers.specs.declared.pair.Pair.{Pair}
 use Rattle.layers.specs.Pairs.{fits, pair_width, pair_waiting, first_waits, second_waits, to_first, to_second, Drawn, AfterPairPost, AfterDraw}
 use Rattle.layers.specs.Layers.{Formula, layer}
-use Rattle.layers.proofs.Pairs.{width_fits, first_le, waits_first, waits_past, waits_second, Leads}
+use Rattle.layers.specs.PairFacts.{width_fits, first_le, waits_first, waits_past, waits_second, Leads}
 
 module _ {L R : Type 0} (l : Model L) (r : Model R) (ll : Steps l) (rr : Steps r) where
   pub anyone_first : (a : Pair L R) → first_waits l r a ≡ true → someone (pair_width l r a) (pair_waiting l r a) ≡ true

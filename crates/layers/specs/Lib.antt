@@ -4,3 +4,10 @@ pub mod Layers
 pub mod Alternations
 pub mod Precedences
 pub mod Alone
+pub mod Shifts
+pub mod SideSums
+pub mod Formulas
+pub mod PairFacts
+pub mod Limits
+pub mod LayerLaws
+pub mod MakeLaws

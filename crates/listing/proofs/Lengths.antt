@@ -1,6 +1,6 @@
 -- How long the parts of a listing are.
 use Rattle.std.proofs.Common.{◌≡◌, ℕ, ◌+◌, ◌/◌, ◌%◌, ◌^◌, ◌<◌, ◌≤◌, max, List, [], ◌++◌, length, get_or, drop, decimal, ap, ◌∙◌, arith, length-append}
-use lib.ListN.{length_replicate}
+use Rattle.std.proofs.lemmas.List.{length-replicate}
 use Rattle.std.proofs.lemmas.Fmt.{decimal_step, length-decimal-le}
 use Rattle.std.proofs.lemmas.List.{at_drop_more, at_drop_all, length_push}
 use Rattle.sheet.specs.Columns.{column, justified}
@@ -14,7 +14,7 @@ pub length_decimal_more : (n : ℕ) → 10 ≤ n → n < 2 ^ 64 → length (deci
 length_decimal_more n h fits = ap length (decimal_step n h fits) ∙ length_push (decimal (n / 10)) (48 + n % 10)
 
 pub length_justified : (w : ℕ) (text : List ℕ) → length (justified w text) ≡ max w (length text)
-length_justified w text = simp (length-append, length_replicate) (omega arith)
+length_justified w text = simp (length-append, length-replicate) (omega arith)
 
 pub length_row : (row : ℕ) (r : Row)
     → length (row_line row r)

@@ -1,7 +1,7 @@
 // The notes on dates: what the analysis hands out, and what the check says of it.
 use analysis::{Refusal as Undated, analyse};
 use arbiter::Arbiter;
-use check::{Dates, Refusal, check};
+use date_check::{Dates, Refusal, check};
 use plan::closed::ClosedPlan;
 use std::alloc::Global;
 

@@ -1,6 +1,6 @@
 // The notes on a run: one whole period, in which every place asks for its accesses as soon as it can.
 use arbiter::Arbiter;
-use check::Dates;
+use date_check::Dates;
 use cluster::Stage;
 use plan::closed::ClosedPlan;
 use plan::rows::Head;

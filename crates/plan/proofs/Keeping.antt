@@ -4,7 +4,7 @@ use Rattle.std.proofs.Common.{◌≡◌, ℕ, zero, suc, ◌+◌, ◌-◌, ◌<�
 use mathlib.Core.Logic.{∥∥₁_elim}
 use native.Mathlib.Bridge.{le_prop}
 use std.HLevel.{Π_prop}
-use base.Stored.{CodedSet, coded_bool, coded_ℕ}
+use base.Stored.{Coded-set, coded_bool, coded_ℕ}
 use Rattle.std.proofs.lemmas.List.{get_or_append_left, get_or_past, get_or_push, get_or-replicate, get_or-set_other, get_or-set_same}
 use Rattle.std.proofs.lemmas.List.Sums.{sum_by_push, sum_by-set}
 use Rattle.std.proofs.lemmas.Bool.{and_from, and_parts, both_ways, cases_eq, cases_lt, eqb-false, eqb-true, leb-true, ltb-true, not-true, or_cases, or_left, or_right}
@@ -20,16 +20,16 @@ legal_prop h i r p q = λ j. record {
   some = le_prop p.some q.some j;
   short = le_prop p.short q.short j;
   soon = le_prop p.soon q.soon j;
-  banked = CodedSet coded_ℕ _ _ p.banked q.banked j;
+  banked = Coded-set coded_ℕ _ _ p.banked q.banked j;
   light = Π_prop (λ b. le_prop) p.light q.light j;
-  inside = Π_prop (λ b. Π_prop (λ l. CodedSet coded_ℕ _ _)) p.inside q.inside j;
+  inside = Π_prop (λ b. Π_prop (λ l. Coded-set coded_ℕ _ _)) p.inside q.inside j;
   earlier = Π_prop (λ k. Π_prop (λ m. le_prop)) p.earlier q.earlier j;
-  once = CodedSet coded_bool _ _ p.once q.once j;
+  once = Coded-set coded_bool _ _ p.once q.once j;
 }
 
 kept_prop : (p : Plan) → IsProp (Kept p)
 kept_prop p x y = λ j. record {
-  headed = CodedSet coded_bool _ _ x.headed y.headed j;
+  headed = Coded-set coded_bool _ _ x.headed y.headed j;
   few = le_prop x.few y.few j;
   sparse = le_prop x.sparse y.sparse j;
   legal = Π_prop (λ i. Π_prop (λ l. legal_prop p.head i _)) x.legal y.legal j;

@@ -2,7 +2,7 @@
 use crate::lines::Line;
 use crate::reading::{read_dates, read_step};
 use crate::steps::Step;
-use check::Dates;
+use date_check::Dates;
 use std::alloc::Global;
 
 // Its number, and the line that begins it.

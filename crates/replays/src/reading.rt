@@ -2,7 +2,7 @@
 use crate::lines::Line;
 use crate::steps::{Answer, Call, Question, Step};
 use anyhow::anyhow;
-use check::Dates;
+use date_check::Dates;
 
 pub(crate) fn read_dates(line: Line) -> anyhow::Result<Dates> {
     Ok(Dates {

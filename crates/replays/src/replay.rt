@@ -2,7 +2,7 @@
 use crate::calls;
 use crate::steps::{Answer, Difference, Question, Step};
 use arbiter::Arbiter;
-use check::{Dates, Refusal, check};
+use date_check::{Dates, Refusal, check};
 use cluster::SetUpRefusal;
 use plan::closed::ClosedPlan;
 use run::Run;

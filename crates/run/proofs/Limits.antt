@@ -5,8 +5,8 @@ use Rattle.std.proofs.lemmas.Bool.Decides.{nat_tests}
 use Rattle.plan.specs.declared.rows.Head.{Head}
 use Rattle.plan.specs.Rows.{Plan}
 use Rattle.plan.specs.Rules.{Kept, banks_of, legal_heading, places_of}
-use Rattle.check.specs.Sound.{period_of}
-use Rattle.check.proofs.Reading.{no_head}
+use Rattle.date_check.specs.Sound.{period_of}
+use Rattle.date_check.proofs.Reading.{no_head}
 
 legal : (o : Option Head) → legal_heading o ≡ true → (o ≡ None → ⊥) → (places_of o ≤ 32) × (banks_of o ≤ 16) × (1 ≤ period_of o)
 legal None l some = absurd (some refl)

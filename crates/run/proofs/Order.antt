@@ -4,7 +4,7 @@ use Rattle.std.proofs.Common.{◌≡◌, ◌+◌, None, ap, ◌∙◌}
 use Rattle.plan.specs.Plans.{closed}
 use Rattle.plan.specs.Rules.{banks_of}
 use Rattle.arbiter.specs.Meaning.{Model}
-use Rattle.check.specs.Sound.{latency_of}
+use Rattle.date_check.specs.Sound.{latency_of}
 use Rattle.cluster.specs.Calls.{Cycling}
 use Rattle.cluster.specs.Cycles.{Turns, all_ended, all_retired, close, used}
 use Rattle.cluster.specs.States.{State, with_time}

@@ -4,7 +4,7 @@ use Rattle.plan.specs.declared.closed.ClosedPlan.{ClosedPlan}
 use Rattle.plan.specs.Plans.{closed}
 use Rattle.plan.specs.Rows.{Plan}
 use Rattle.plan.specs.Rules.{places_of}
-use Rattle.check.specs.declared.dates.Dates.{Dates}
+use Rattle.date_check.specs.declared.dates.Dates.{Dates}
 use Rattle.cluster.specs.declared.place.Place.{Place}
 use Rattle.cluster.specs.declared.refusal.CallRefusal.{CallRefusal}
 use Rattle.cluster.specs.declared.refusal.CallRefusal.TheVariants.{Unknown}

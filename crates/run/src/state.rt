@@ -2,11 +2,11 @@
 ghost use Rattle.std.specs.Prelude.{◌≡◌, ◌≤◌, true, ◌||◌, length, nat_lt};
 ghost use Rattle.plan.specs.Plans.{closed};
 ghost use Rattle.plan.specs.Rules.{banks_of};
-ghost use Rattle.check.specs.Sound.{period_of};
+ghost use Rattle.date_check.specs.Sound.{period_of};
 ghost use Rattle.cluster.specs.Cycles.{is_some};
 
 use arbiter::Arbiter;
-use check::Dates;
+use date_check::Dates;
 use cluster::{Breach, Place, Service, SetUpRefusal, Stage};
 use plan::closed::ClosedPlan;
 

@@ -3,7 +3,7 @@ use Rattle.std.proofs.Common.{◌≡◌, ℕ, ◌<◌, ◌≤◌, true, false, �
 use Rattle.std.proofs.lemmas.Bool.{false≢true}
 use Rattle.plan.specs.Rules.{places_of}
 use Rattle.plan.proofs.Keeping.{few_banks}
-use Rattle.check.proofs.Reading.{few_places}
+use Rattle.date_check.proofs.Reading.{few_places}
 use Rattle.arbiter.specs.Events.{serves}
 use Rattle.arbiter.specs.Meaning.{Keeps}
 use Rattle.cluster.specs.declared.place.Place.{Place}

@@ -7,9 +7,9 @@ use Rattle.arbiter.specs.Events.{Event, Trace, delay, done, one, posts, stop, th
 use Rattle.arbiter.proofs.AtLeast.{covers_at_least}
 use Rattle.arbiter.proofs.Sums.{sum_below_le}
 use Rattle.arbiter.proofs.Traces.{delay_append, posts_append, trace_append}
-use Rattle.check.specs.Sound.{Sound, load, loads, services, share}
-use Rattle.check.proofs.Counting.{loads_at}
-use Rattle.check.proofs.Limits.{bound_accepted}
+use Rattle.date_check.specs.Sound.{Sound, load, loads, services, share}
+use Rattle.date_check.proofs.Counting.{loads_at}
+use Rattle.date_check.proofs.Limits.{bound_accepted}
 use Rattle.cluster.specs.declared.service.Service.{Service}
 use Rattle.cluster.specs.declared.stage.Stage.TheVariants.{AtWork}
 use Rattle.safety.proofs.Accounts.{Paid, Past, WatchedAt, counts, met, spent_at, used, used_by_all}

@@ -3,7 +3,7 @@ use Rattle.std.proofs.Common.{◌≡◌, ℕ, ◌+◌, ◌<◌, ◌≤◌, Bool,
 use Rattle.std.proofs.lemmas.List.{length-replicate}
 use Rattle.std.proofs.lemmas.Bool.{cases_eq, cond_both, eq-eqb, eqb-true, false≢true, ne_eqb, true≢false}
 use Rattle.plan.specs.Rules.{places_of}
-use Rattle.check.specs.Sound.{Sound, period_of}
+use Rattle.date_check.specs.Sound.{Sound, period_of}
 use Rattle.cluster.specs.declared.stage.Stage.{Stage}
 use Rattle.cluster.specs.declared.stage.Stage.TheVariants.{Ahead, AtWork, Done}
 use Rattle.cluster.specs.Cycles as cycles

@@ -4,7 +4,7 @@ use Rattle.std.proofs.lemmas.Bool.{cases_eq, eq-eqb, ne_eqb, or_right}
 use Rattle.plan.specs.Rows.{Row, row}
 use Rattle.plan.specs.Rules.{member}
 use Rattle.plan.specs.Waits.{holds, latest_at, previous_of, waits_for}
-use Rattle.check.specs.Sound.{Sound}
+use Rattle.date_check.specs.Sound.{Sound}
 use Rattle.safety.proofs.Setting.{Setting, due, home, release, rows}
 
 -- The latest row below i at a place, where k is one.

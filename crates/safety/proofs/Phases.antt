@@ -5,7 +5,7 @@ use Rattle.std.proofs.lemmas.Bool.{cases_eq}
 use Rattle.std.proofs.lemmas.Bool.Decides.{nat_tests}
 use Rattle.plan.specs.declared.rows.Head.{Head}
 use Rattle.plan.specs.Rules.{banks_of, legal_heading}
-use Rattle.check.specs.Sound.{latency_of}
+use Rattle.date_check.specs.Sound.{latency_of}
 use Rattle.cluster.specs.declared.service.Service.{Service}
 use Rattle.cluster.specs.Cycles as cycles
 use Rattle.cluster.specs.Cycles.{Turns, end_service, next_turn, no_turn, retire}

@@ -3,7 +3,7 @@ use Rattle.std.proofs.Common.{◌≡◌, ℕ, zero, suc, ◌<◌, ◌≤◌, tru
 use Rattle.std.proofs.lemmas.List.{length-set}
 use Rattle.std.proofs.lemmas.Bool.{and_from, and_parts, cases_eq, cases_order, cond_both, eq-eqb, eqb-true, false≢true, ne_eqb}
 use Rattle.plan.proofs.Waiting.{waits_below}
-use Rattle.check.specs.Sound.{Sound}
+use Rattle.date_check.specs.Sound.{Sound}
 use Rattle.cluster.specs.declared.breach.Breach.{Breach}
 use Rattle.cluster.specs.declared.breach.Breach.TheVariants.{Unready}
 use Rattle.cluster.specs.declared.place.Place.{Place}

@@ -4,8 +4,8 @@ use Rattle.plan.specs.Rows.{Plan, accesses, row}
 use Rattle.plan.specs.Rules.{Kept, banks_of, places_of}
 use Rattle.arbiter.specs.Laws.{Lawful}
 use Rattle.arbiter.specs.Meaning.{Model}
-use Rattle.check.specs.declared.dates.Dates.{Dates}
-use Rattle.check.specs.Sound.{dated, finish, latency_of, meets, period_of}
+use Rattle.date_check.specs.declared.dates.Dates.{Dates}
+use Rattle.date_check.specs.Sound.{dated, finish, latency_of, meets, period_of}
 use Rattle.cluster.specs.declared.service.Service.{Service}
 
 pub record Setting (A : Type 0) : Type 1 where

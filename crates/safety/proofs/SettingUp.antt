@@ -10,11 +10,11 @@ use Rattle.arbiter.specs.Answers.{someone}
 use Rattle.arbiter.specs.Laws.{Lawful}
 use Rattle.arbiter.specs.Meaning.{Model}
 use Rattle.arbiter.proofs.Someone.{nobody_at}
-use Rattle.check.specs.declared.dates.Dates.{Dates}
-use Rattle.check.specs.Sound.{Fits, Sound, dated, finish, period_of}
-use Rattle.check.specs.Verdict.{all_wide, arbiters_fit}
-use Rattle.check.proofs.Passing.{wide_all}
-use Rattle.check.proofs.Reading.{short_period}
+use Rattle.date_check.specs.declared.dates.Dates.{Dates}
+use Rattle.date_check.specs.Sound.{Fits, Sound, dated, finish, period_of}
+use Rattle.date_check.specs.Verdict.{all_wide, arbiters_fit}
+use Rattle.date_check.proofs.Passing.{wide_all}
+use Rattle.date_check.proofs.Reading.{short_period}
 use Rattle.cluster.specs.declared.refusal.SetUpRefusal.TheVariants.{NoTask, Arbiters, Table, Waiting, Range, Late}
 use Rattle.cluster.specs.Calls.{all_in_range, all_quiet, is_late, late_refusal, runs_in_range, set_up_refusal}
 use Rattle.cluster.specs.Cycles.{lowest}

@@ -4,9 +4,9 @@ use Rattle.plan.specs.Rows.{Plan}
 use Rattle.plan.specs.Rules.{Kept}
 use Rattle.arbiter.specs.Laws.{Lawful}
 use Rattle.arbiter.specs.Meaning.{Model}
-use Rattle.check.specs.declared.dates.Dates.{Dates}
-use Rattle.check.specs.Verdict.{verdict}
-use Rattle.check.proofs.Passing.{verdict_exact}
+use Rattle.date_check.specs.declared.dates.Dates.{Dates}
+use Rattle.date_check.specs.Verdict.{verdict}
+use Rattle.date_check.proofs.Passing.{verdict_exact}
 use Rattle.cluster.specs.Runs.{NeverTurnedAway, SoundUnbreached}
 use Rattle.analysis.proofs.Systems.{consistent_sound}
 use Rattle.safety.specs.Promises.{AnalysedChecked, CheckExact, CheckedUnbreached}

@@ -1,6 +1,6 @@
 -- With sound dates no run comes to a breach at any moment.
 use Rattle.std.proofs.Common.{◌≡◌, ℕ, ◌≤◌, [], None, sym, refl, ap, ◌∙◌, subst, arith}
-use Rattle.check.specs.Sound.{Sound}
+use Rattle.date_check.specs.Sound.{Sound}
 use Rattle.cluster.specs.Calls.{Cycling, Posting}
 use Rattle.cluster.specs.Cycles.{closing, overdue, worked, wrapped}
 use Rattle.cluster.specs.Runs.{BeforeRelease, Comes, Moment, Safe, Unbreached, asks, between, cycles, ends, frees, in_cycle, in_set_up, looks, picks, questions, retires, sets_up}

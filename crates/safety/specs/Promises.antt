@@ -3,8 +3,8 @@ use Rattle.std.specs.Prelude.{◌≡◌, ℕ, true, List, None, Ok}
 use Rattle.plan.specs.Rows.{Plan}
 use Rattle.plan.specs.Rules.{Kept}
 use Rattle.arbiter.specs.Meaning.{Model}
-use Rattle.check.specs.declared.dates.Dates.{Dates}
-use Rattle.check.specs.Verdict.{Exact, verdict}
+use Rattle.date_check.specs.declared.dates.Dates.{Dates}
+use Rattle.date_check.specs.Verdict.{Exact, verdict}
 use Rattle.analysis.specs.Answers.{Answer}
 use Rattle.cluster.specs.Calls.{all_quiet, set_up_refusal}
 use Rattle.cluster.specs.Runs.{Unbreached}

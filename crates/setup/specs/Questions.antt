@@ -2,7 +2,7 @@
 use Rattle.std.specs.Prelude.{◌≡◌, ◌≤◌, List, length, Option}
 use Rattle.plan.specs.Rows.{Plan}
 use Rattle.plan.specs.Rules.{banks_of}
-use Rattle.check.specs.declared.dates.Dates.{Dates}
+use Rattle.date_check.specs.declared.dates.Dates.{Dates}
 use Rattle.cluster.specs.declared.refusal.SetUpRefusal.{SetUpRefusal}
 use Rattle.cluster.specs.declared.refusal.SetUpRefusal.TheVariants.{Range}
 use Rattle.cluster.specs.Calls.{all_in_range, asked, is_late, late_refusal}

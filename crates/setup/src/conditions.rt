@@ -3,14 +3,14 @@ ghost use Rattle.std.specs.Prelude.{◌≡◌, ◌<◌, ◌≤◌, true, length,
 ghost use Rattle.plan.specs.Plans.{closed};
 ghost use Rattle.plan.specs.Rules.{banks_of};
 ghost use Rattle.arbiter.specs.Given.{model};
-ghost use Rattle.check.specs.Verdict.{all_wide, arbiters_fit};
+ghost use Rattle.date_check.specs.Verdict.{all_wide, arbiters_fit};
 ghost use Rattle.cluster.specs.Calls.{all_in_range, all_quiet, is_late, runs_in_range, set_up_refusal};
 ghost use Rattle.cluster.specs.Cycles.{lowest};
 ghost use Rattle.setup.specs.Questions.{Rests, dates_refusal};
 
 use crate::heads::head_of;
 use arbiter::Arbiter;
-use check::Dates;
+use date_check::Dates;
 use cluster::SetUpRefusal;
 use plan::closed::ClosedPlan;
 

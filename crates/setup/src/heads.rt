@@ -2,7 +2,7 @@
 ghost use Rattle.std.specs.Prelude.{◌≡◌};
 ghost use Rattle.plan.specs.Plans.{closed};
 ghost use Rattle.plan.specs.Rules.{banks_of, places_of};
-ghost use Rattle.check.specs.Sound.{latency_of, period_of};
+ghost use Rattle.date_check.specs.Sound.{latency_of, period_of};
 
 use plan::closed::ClosedPlan;
 use plan::rows::Head;

@@ -1,7 +1,7 @@
 -- A field is well formed exactly if it is the one way to write its number or name. Assumes nothing.
 use Rattle.std.proofs.Common.{◌≡◌, ℕ, zero, suc, ◌-◌, ◌^◌, ◌<◌, ◌≤◌, Bool, true, false, cond, not, ◌&&◌, ◌||◌, eqb, ltb, leb, List, [], ◌∷◌, ◌++◌, length, get_or, replicate, Some, None, decimal, sym, refl, ap, ◌∙◌, inl, inr, arith, length-append}
 use native.Mathlib.Nat.{sub_self}
-use lib.ListN.{length_replicate}
+use lib.ListN.{length-replicate}
 use Rattle.std.proofs.ByRecursion.{All-append}
 use Rattle.std.proofs.lemmas.Fmt.{decimal_digit, decimal_nonempty, decimal-digits_value, digits_decimal, first_decimal, length-decimal-le, digits_value-decimal}
 use Rattle.std.proofs.lemmas.Str.Parse.{IsNumeralModel, numerals_by_value, tells_all_ascii_digits, digits_value_short}
@@ -53,7 +53,7 @@ justified_unpadded (b ∷ bs) = elim (cases_eq b 32) [
 ]
 
 length_justified : (w : ℕ) (text : List ℕ) → length text ≤ w → length (justified w text) ≡ w
-length_justified w text h = simp (length-append, length_replicate) (omega arith)
+length_justified w text h = simp (length-append, length-replicate) (omega arith)
 
 -- numbers
 

@@ -8,9 +8,9 @@ use Rattle.arbiter.specs.Fair.{fair_bound}
 use Rattle.arbiter.specs.Meaning.{Model}
 use Rattle.rings.specs.declared.ring.Ring.{Ring}
 use Rattle.rings.specs.Rings.{ring, NewRing}
-use Rattle.check.specs.declared.dates.Dates.{Dates}
-use Rattle.check.specs.Sound.{Fits, loads}
-use Rattle.check.specs.Verdict.{verdict}
+use Rattle.date_check.specs.declared.dates.Dates.{Dates}
+use Rattle.date_check.specs.Sound.{Fits, loads}
+use Rattle.date_check.specs.Verdict.{verdict}
 use Rattle.consistency.specs.System.{System}
 use Rattle.consistency.specs.Dates.{Consistent, Rounds, Table, alone, finish, first, release_date, then_round, worst}
 use Rattle.consistency.proofs.Consistent.{unmoved, unmoved_consistent}

@@ -14,7 +14,7 @@ use Rattle.layers.specs.declared.pair.Pair.{Pair}
 use Rattle.layers.specs.declared.pair.Side.{Side}
 use Rattle.layers.specs.declared.pair.Side.TheVariants as sides
 use Rattle.layers.specs.Pairs.{from_first, from_second, to_first, to_second}
-use Rattle.check.specs.Sound.{loads}
+use Rattle.date_check.specs.Sound.{loads}
 use Rattle.analysis.specs.Plans.{releases, responses}
 use Rattle.worked.specs.Plans.{scan_and_steam}
 use Rattle.worked.specs.Analyses.{touching_dates}

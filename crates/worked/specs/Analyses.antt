@@ -2,7 +2,7 @@
 use Rattle.std.specs.Prelude.{◌≡◌, ℕ, List, [], ◌∷◌, length, Ok, Err}
 use Rattle.rings.specs.declared.ring.Ring.{Ring}
 use Rattle.rings.specs.Rings.{ring}
-use Rattle.check.specs.declared.dates.Dates.{Dates}
+use Rattle.date_check.specs.declared.dates.Dates.{Dates}
 use Rattle.consistency.specs.Dates.{Rounds, Smallest, worst}
 use Rattle.consistency.specs.System.{System}
 use Rattle.analysis.specs.Answers.{Answer}

@@ -3,7 +3,7 @@ use Rattle.std.specs.Prelude.{◌≡◌, ℕ, List, [], ◌∷◌, replicate, So
 use Rattle.plan.specs.Rows.{Plan}
 use Rattle.rings.specs.declared.ring.Ring.{Ring}
 use Rattle.rings.specs.Rings.{ring}
-use Rattle.check.specs.declared.dates.Dates.{Dates}
+use Rattle.date_check.specs.declared.dates.Dates.{Dates}
 use Rattle.cluster.specs.declared.breach.Breach.TheVariants.{Overdue}
 use Rattle.cluster.specs.declared.refusal.CallRefusal.{CallRefusal}
 use Rattle.cluster.specs.Calls.{Ask, Cycle, set_up, set_up_refusal}

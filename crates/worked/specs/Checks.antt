@@ -2,10 +2,10 @@
 use Rattle.std.specs.Prelude.{◌≡◌, List, [], ◌∷◌, Ok, Err, Result}
 use Rattle.rings.specs.declared.ring.Ring.{Ring}
 use Rattle.rings.specs.Rings.{ring}
-use Rattle.check.specs.declared.dates.Dates.{Dates}
-use Rattle.check.specs.declared.refusal.Refusal.{Refusal}
-use Rattle.check.specs.declared.refusal.Refusal.TheVariants.{Early, Short}
-use Rattle.check.specs.Verdict.{verdict}
+use Rattle.date_check.specs.declared.dates.Dates.{Dates}
+use Rattle.date_check.specs.declared.refusal.Refusal.{Refusal}
+use Rattle.date_check.specs.declared.refusal.Refusal.TheVariants.{Early, Short}
+use Rattle.date_check.specs.Verdict.{verdict}
 use Rattle.worked.specs.Plans.{dates, scan_and_steam}
 
 abbrev pub checked : Ring → List Dates → Result (Unit {0}) Refusal

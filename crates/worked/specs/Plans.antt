@@ -2,7 +2,7 @@
 use Rattle.std.specs.Prelude.{ℕ, List, [], ◌∷◌, Some}
 use Rattle.plan.specs.Rows.{Plan, Row, new_row}
 use Rattle.plan.specs.Rules.{with_accesses}
-use Rattle.check.specs.declared.dates.Dates.{Dates}
+use Rattle.date_check.specs.declared.dates.Dates.{Dates}
 
 -- A task with so many accesses on bank 0.
 abbrev pub task : ℕ → ℕ → ℕ → ℕ → Row

@@ -2,7 +2,7 @@
 use Rattle.std.specs.Prelude.{◌≡◌, ℕ, List, [], ◌∷◌, ◌++◌, Some, None, Ok, codes}
 use Rattle.std.specs.Borrow.{Bor}
 use Rattle.plan.specs.Rows.{Plan}
-use Rattle.check.specs.declared.dates.Dates.{Dates}
+use Rattle.date_check.specs.declared.dates.Dates.{Dates}
 use Rattle.sheet.specs.Reading.{whole_reading}
 use Rattle.sheet.specs.declared.lines.Make.TheVariants.{Ring}
 use Rattle.loader.specs.Rows.{all_taken, make_in, names_in}

@@ -4,6 +4,7 @@ ghost use Rattle.arbiter.specs.Answers.{AfterPick};
 ghost use Rattle.arbiter.specs.Given.{model};
 ghost use Rattle.layers.specs.Pairs.{pair_waiting, pair_last};
 ghost use Rattle.layers.specs.Alternations.{alternates, alternation, alternation_moves, new_alternation};
+ghost use Rattle.layers.specs.MakeLaws.{alternation_keeps};
 
 use super::Alternation;
 use crate::pair::Pair;
@@ -44,6 +45,8 @@ impl<L: Arbiter, R: Arbiter> Arbiter for Alternation<L, R> {
     ghost last = { λ a. pair_last (model L.Arbiter) (model R.Arbiter) a.pair };
 
     ghost moves = { alternation_moves (model L.Arbiter) (model R.Arbiter) };
+
+    ghost lawful = { alternation_keeps _ _ L.lawful R.lawful };
 
     fn width(&self) -> usize {
         self.pair.width()

@@ -4,6 +4,7 @@ ghost use Rattle.arbiter.specs.Answers.{AfterPick};
 ghost use Rattle.arbiter.specs.Given.{model};
 ghost use Rattle.layers.specs.Pairs.{pair_waiting, pair_last};
 ghost use Rattle.layers.specs.Precedences.{precedes, precedence, precedence_moves, new_precedence};
+ghost use Rattle.layers.specs.MakeLaws.{precedence_keeps};
 
 use super::Precedence;
 use crate::pair::Pair;
@@ -37,6 +38,8 @@ impl<L: Arbiter, R: Arbiter> Arbiter for Precedence<L, R> {
     ghost last = { λ a. pair_last (model L.Arbiter) (model R.Arbiter) a.pair };
 
     ghost moves = { precedence_moves (model L.Arbiter) (model R.Arbiter) };
+
+    ghost lawful = { precedence_keeps _ _ L.lawful R.lawful };
 
     fn width(&self) -> usize {
         self.pair.width()

@@ -1,6 +1,6 @@
 // Step 5 of a cycle: time grows, finish dates are looked at, and releases follow.
 ghost use Rattle.std.specs.Prelude.{◌≡◌, ◌+◌, ◌<◌, ◌≤◌, length, None};
-ghost use Rattle.check.specs.Sound.{period_of};
+ghost use Rattle.date_check.specs.Sound.{period_of};
 ghost use Rattle.cluster.specs.Cycles.{close, is_overdue, overdue, wrapped};
 ghost use Rattle.cluster.specs.States.{with_time};
 ghost use Rattle.run.specs.Views.{Goes, planned, state, table};

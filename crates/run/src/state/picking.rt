@@ -2,7 +2,7 @@
 ghost use Rattle.std.specs.Prelude.{◌<◌, Some};
 ghost use Rattle.plan.specs.Rules.{banks_of};
 ghost use Rattle.arbiter.specs.Given.{model};
-ghost use Rattle.check.specs.Sound.{latency_of};
+ghost use Rattle.date_check.specs.Sound.{latency_of};
 ghost use Rattle.cluster.specs.Cycles.{Picking, Turn, Turns, picked};
 ghost use Rattle.run.specs.Views.{Goes, Stays, planned, state};
 

@@ -2,7 +2,7 @@
 ghost use Rattle.std.specs.Prelude.{◌≡◌, ◌<◌, ◌≤◌, length};
 ghost use Rattle.plan.specs.Rows.{row as row_in, row_of};
 ghost use Rattle.plan.specs.Rules.{banks_of, places_of};
-ghost use Rattle.check.specs.Sound.{latency_of, period_of};
+ghost use Rattle.date_check.specs.Sound.{latency_of, period_of};
 ghost use Rattle.cluster.specs.Cycles.{new_job};
 ghost use Rattle.cluster.specs.States.{place_of, stage_of};
 ghost use Rattle.run.specs.Views.{planned, state};

@@ -8,7 +8,7 @@ ghost use Rattle.run.specs.Views.{SetsUp};
 
 use crate::state::{Refused, Run};
 use arbiter::Arbiter;
-use check::Dates;
+use date_check::Dates;
 use cluster::{Place, Stage};
 use plan::closed::ClosedPlan;
 use setup::refusal_of;

@@ -8,9 +8,9 @@ use Rattle.plan.specs.Rows.{Plan, row_of}
 use Rattle.plan.specs.Rules.{Kept}
 use Rattle.arbiter.specs.Given.{model}
 use Rattle.arbiter.specs.Meaning.{Model}
-use Rattle.check.specs.Sound.{Fits, Sound}
-use Rattle.check.specs.Verdict.{all_wide, arbiters_fit}
-use Rattle.check.proofs.Reading.{kept_of, read_count, short_period}
+use Rattle.date_check.specs.Sound.{Fits, Sound}
+use Rattle.date_check.specs.Verdict.{all_wide, arbiters_fit}
+use Rattle.date_check.proofs.Reading.{kept_of, read_count, short_period}
 use Rattle.analysis.specs.Answers.{Answer}
 use Rattle.analysis.specs.Workings.{Decided, planned}
 use Rattle.analysis.proofs.Concluding.{concluded, fitting}

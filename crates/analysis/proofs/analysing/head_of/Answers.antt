@@ -3,7 +3,7 @@ use Rattle.std.proofs.lemmas.Bool.{eqb-false, eqb-true}
 use Rattle.plan.specs.Plans.{closed}
 use Rattle.plan.specs.declared.closed.ClosedPlan.{ClosedPlan}
 use Rattle.plan.specs.declared.rows.Head.{Head}
-use Rattle.check.proofs.Reading.{kept_of, no_head, read_count}
+use Rattle.date_check.proofs.Reading.{kept_of, no_head, read_count}
 use Rattle.analysis.proofs.analysing.head_of.Goals as goal
 
 headed : (plan : ClosedPlan) (o : Option Head) → 1 ≤ length (closed plan).rows → o ≡ (closed plan).head → MatchOption o (length (closed plan).rows ≡ 0) (λ head. (1 ≤ length (closed plan).rows) × ((closed plan).head ≡ Some head))

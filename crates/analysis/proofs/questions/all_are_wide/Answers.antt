@@ -2,8 +2,8 @@ use Rattle.std.proofs.Common.{◌≡◌, ◌+◌, true, false, ◌&&◌, leb, dr
 use Rattle.std.proofs.lemmas.List.{drop_all}
 use Rattle.std.proofs.lemmas.Bool.{le-leb, lt-leb}
 use Rattle.arbiter.specs.Given.{model}
-use Rattle.check.specs.Verdict.{all_wide}
-use Rattle.check.proofs.Passing.{wide_more}
+use Rattle.date_check.specs.Verdict.{all_wide}
+use Rattle.date_check.proofs.Passing.{wide_more}
 use Rattle.analysis.proofs.questions.all_are_wide.Goals as goal
 
 pub returns-then-width-places : goal.returns-then-width-places

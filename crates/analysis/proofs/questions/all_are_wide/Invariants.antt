@@ -1,6 +1,6 @@
 use Rattle.std.proofs.Common.{◌≡◌, drop}
 use Rattle.arbiter.specs.Given.{model}
-use Rattle.check.specs.Verdict.{all_wide}
+use Rattle.date_check.specs.Verdict.{all_wide}
 use Rattle.analysis.proofs.questions.all_are_wide.Given as goal
 
 -- Those still ahead decide.

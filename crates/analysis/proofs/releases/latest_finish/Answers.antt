@@ -1,5 +1,5 @@
 use Rattle.std.proofs.Common.{ℕ, ◌+◌, get_or, sym, subst, arith}
-use Rattle.check.proofs.Finishing.{member_at}
+use Rattle.date_check.proofs.Finishing.{member_at}
 use Rattle.analysis.specs.Workings.{LatestOf}
 use Rattle.analysis.proofs.Renewing.{Among, latest_members, latest_more}
 use Rattle.analysis.proofs.releases.latest_finish.Goals as goal

@@ -11,9 +11,9 @@ use Rattle.arbiter.specs.Counts.{limit}
 use Rattle.arbiter.specs.Given.{model}
 use Rattle.arbiter.specs.Laws.{Lawful}
 use Rattle.arbiter.specs.Meaning.{Model}
-use Rattle.check.specs.Sound.{loads, services, work}
-use Rattle.check.proofs.Limits.{bound_accepted, bound_limit, latency_limit, read_accepted, read_bound, services_few, services_more, work_limit}
-use Rattle.check.proofs.Reading.{low_latency}
+use Rattle.date_check.specs.Sound.{loads, services, work}
+use Rattle.date_check.proofs.Limits.{bound_accepted, bound_limit, latency_limit, read_accepted, read_bound, services_few, services_more, work_limit}
+use Rattle.date_check.proofs.Reading.{low_latency}
 use Rattle.analysis.specs.declared.tables.Meetings.{Meetings}
 use Rattle.analysis.specs.Workings.{Asked, Loaded, marked, planned}
 use Rattle.analysis.proofs.TaskRows.{task_below, task_row}

@@ -2,7 +2,7 @@ use Rattle.std.proofs.Common.{◌≡◌, ◌+◌, ◌*◌, ◌≤◌, map, drop}
 use Rattle.plan.specs.Rows.{row_of}
 use Rattle.arbiter.specs.Counts.{limit}
 use Rattle.arbiter.specs.Given.{model}
-use Rattle.check.specs.Sound.{services}
+use Rattle.date_check.specs.Sound.{services}
 use Rattle.analysis.specs.Workings.{marked}
 use Rattle.analysis.proofs.worst.work_time.Given as goal
 

@@ -1,7 +1,7 @@
 use Rattle.std.proofs.lemmas.Result.{IfOk-weaker}
 use Rattle.std.proofs.Common.{vec_items}
 use Rattle.plan.specs.Plans.{closed, opened}
-use Rattle.check.proofs.Reading.{kept_of}
+use Rattle.date_check.proofs.Reading.{kept_of}
 use Rattle.answering.proofs.Loads.{fault_listed, listed, name_per_row, no_make}
 use Rattle.answering.proofs.answering.list_lines.Goals as goal
 

@@ -1,6 +1,6 @@
 use Rattle.std.proofs.Common.{map, length, Ok, Err, vec_items, ap, ◌∙◌, subst, arith}
 use Rattle.std.proofs.lemmas.Result.{IfOk-weaker}
-use Rattle.check.proofs.Reading.{read_count}
+use Rattle.date_check.proofs.Reading.{read_count}
 use Rattle.answering.specs.Listings.{ListsGranted}
 use Rattle.answering.proofs.Refilling.{refilled}
 use Rattle.answering.proofs.dating.list_plan.Goals as goal

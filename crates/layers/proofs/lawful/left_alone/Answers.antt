@@ -1,6 +1,6 @@
 use Rattle.std.proofs.Common.{refl}
 use Rattle.arbiter.specs.Given.{model}
-use Rattle.layers.proofs.MakeLaws.{alternation_too_wide}
+use Rattle.layers.specs.MakeLaws.{alternation_too_wide}
 use Rattle.layers.proofs.lawful.left_alone.Goals as goal
 
 pub returns : goal.returns

@@ -1,6 +1,6 @@
 use Rattle.std.proofs.Common.{refl}
 use Rattle.arbiter.specs.Given.{model}
-use Rattle.layers.proofs.MakeLaws.{precedence_too_wide}
+use Rattle.layers.specs.MakeLaws.{precedence_too_wide}
 use Rattle.layers.proofs.lawful.low_alone.Goals as goal
 
 pub returns : goal.returns

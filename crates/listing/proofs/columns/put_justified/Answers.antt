@@ -1,16 +1,16 @@
 -- The spaces, and the text behind them.
 use Rattle.std.proofs.Common.{ℕ, arith}
-use lib.ListN.{length_replicate}
+use Rattle.std.proofs.lemmas.List.{length-replicate}
 use Rattle.listing.proofs.Writes.{behind}
 use Rattle.listing.proofs.Lengths.{length_justified}
 use Rattle.listing.proofs.columns.put_justified.Goals as goal
 
-pub put-spaces-start-requires : goal.put-spaces-start-requires
-put-spaces-start-requires c = omega (arith, length_justified c.args.width c.args.text.now)
+pub put_spaces-start-requires : goal.put_spaces-start-requires
+put_spaces-start-requires c = omega (arith, length_justified c.args.width c.args.text.now)
 
-pub put-text-requires : goal.put-text-requires
-put-text-requires c =
-    omega (arith, length_justified c.args.width c.args.text.now, length_replicate {A = ℕ} c.saturating-sub.result 32)
+pub put_text-requires : goal.put_text-requires
+put_text-requires c =
+    omega (arith, length_justified c.args.width c.args.text.now, length-replicate {A = ℕ} c.saturating_sub.result 32)
 
 pub returns : goal.returns
-returns c = rw (← c.saturating-sub.ensures) (behind (omega arith) c.put-spaces-start.ensures c.put-text.ensures)
+returns c = rw (← c.saturating_sub.ensures) (behind (omega arith) c.put_spaces-start.ensures c.put_text.ensures)

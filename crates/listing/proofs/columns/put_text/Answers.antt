@@ -4,4 +4,4 @@ use Rattle.listing.proofs.Writes.{replaced}
 use Rattle.listing.proofs.columns.put_text.Goals as goal
 
 pub returns : goal.returns
-returns c = replaced c.args.out.now _ _ c.args.at _ c.copy-from-slice.ensures.after refl
+returns c = replaced c.args.out.now _ _ c.args.at _ c.copy_from_slice.ensures.after refl

@@ -4,8 +4,8 @@ use Rattle.listing.proofs.Lengths.{rows_more, length_rows_more, rows_all}
 use Rattle.listing.proofs.Writes.{behind, nothing}
 use Rattle.listing.proofs.lines.put_rows.Goals as goal
 
-pub put-row-end-requires : goal.put-row-end-requires
-put-row-end-requires c = omega (arith, length_rows_more c.args.rows.now c.loop-row.row c.loop-row-test.true)
+pub put_row-end-requires : goal.put_row-end-requires
+put_row-end-requires c = omega (arith, length_rows_more c.args.rows.now c.loop-row.row c.loop-row-test.true)
 
 pub loop-row-preserved : goal.loop-row-preserved
 loop-row-preserved c =
@@ -13,7 +13,7 @@ loop-row-preserved c =
     let i = c.loop-row.row in
     let more = rows_more rows i c.loop-row-test.true in
     let size = length_rows_more rows i c.loop-row-test.true in
-    (omega arith, λ m e rest. c.loop-row.invariant.1 m e (rw more (behind (omega arith) c.put-row-end.ensures rest)))
+    (omega arith, λ m e rest. c.loop-row.invariant.1 m e (rw more (behind (omega arith) c.put_row-end.ensures rest)))
 
 pub returns : goal.returns
 returns c =

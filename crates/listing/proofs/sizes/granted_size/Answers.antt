@@ -10,8 +10,8 @@ pub returns : goal.returns
 returns c =
     let rows = c.args.rows.now in
     let rounds = c.args.rounds in
-    let whole : (c.column-size.result + 2) + length (row_lines 0 rows) ≡ length (granted rounds rows) = omega (arith, length_granted rounds rows) in
-    let measured = subst (Measured c.rows-size.result) whole c.rows-size.ensures in
+    let whole : (c.column_size.result + 2) + length (row_lines 0 rows) ≡ length (granted rounds rows) = omega (arith, length_granted rounds rows) in
+    let measured = subst (Measured c.rows_size.result) whole c.rows_size.ensures in
     record {
       defined = measured;
       aligned =

@@ -9,7 +9,7 @@ pub returns : goal.returns
 returns c =
     let row = c.args.row in
     let r = c.args.r.now in
-    let dates = c.column-size.result + c.column-size-2.result + c.column-size-3.result in
-    let whole : c.max-name.result + (c.column-size-4.result + dates + 3) ≡ length (row_line row r) =
+    let dates = c.column_size.result + c.column_size-2.result + c.column_size-3.result in
+    let whole : c.max-name.result + (c.column_size-4.result + dates + 3) ≡ length (row_line row r) =
     omega (arith, length_row row r, length_justified 12 r.name.now) in
-    subst (Measured c.checked-add.result) whole c.checked-add.ensures
+    subst (Measured c.checked_add.result) whole c.checked_add.ensures

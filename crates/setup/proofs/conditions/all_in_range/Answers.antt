@@ -1,5 +1,5 @@
 use Rattle.std.proofs.Common.{refl}
-use Rattle.check.specs.Sound.{dated}
+use Rattle.date_check.specs.Sound.{dated}
 use Rattle.cluster.specs.Calls.{all_in_range, runs_in_range}
 use Rattle.setup.proofs.Every.{every_more, every_not}
 use Rattle.setup.proofs.conditions.all_in_range.Goals as goal

@@ -1,7 +1,7 @@
 use Rattle.std.proofs.Common.{leb, refl, arith}
 use Rattle.std.proofs.lemmas.Bool.{le-leb, lt-leb}
 use Rattle.arbiter.specs.Given.{model}
-use Rattle.check.specs.Verdict.{all_wide}
+use Rattle.date_check.specs.Verdict.{all_wide}
 use Rattle.setup.proofs.Every.{ahead_all, ahead_more, ahead_not}
 use Rattle.setup.proofs.conditions.all_wide.Goals as goal
 

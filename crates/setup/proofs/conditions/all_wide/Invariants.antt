@@ -1,6 +1,6 @@
 use Rattle.std.proofs.Common.{◌≡◌, drop}
 use Rattle.arbiter.specs.Given.{model}
-use Rattle.check.specs.Verdict.{all_wide}
+use Rattle.date_check.specs.Verdict.{all_wide}
 use Rattle.setup.proofs.conditions.all_wide.Given as goal
 
 -- The arbiters still ahead decide.

@@ -1,4 +1,4 @@
-use Rattle.check.proofs.Reading.{read_count}
+use Rattle.date_check.proofs.Reading.{read_count}
 use Rattle.setup.proofs.conditions.task_count.Goals as goal
 
 pub returns : goal.returns

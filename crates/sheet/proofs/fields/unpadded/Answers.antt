@@ -7,8 +7,8 @@ use Rattle.sheet.proofs.fields.unpadded.Goals as goal
 pub returns-then-b-ne32 : goal.returns-then-b-ne32
 returns-then-b-ne32 c =
     record {
-      text = c.split-at.ensures.back ∙ (sym (unpadded_here c.args.field.now c.loop-i.i c.loop-i-test.true c.if-b-ne32.true) ∙ c.loop-i.invariant);
-      len = omega (arith, c.split-at.ensures.back_len);
+      text = c.split_at.ensures.back ∙ (sym (unpadded_here c.args.field.now c.loop-i.i c.loop-i-test.true c.if-b-ne32.true) ∙ c.loop-i.invariant);
+      len = omega (arith, c.split_at.ensures.back_len);
     }
 
 pub loop-i-preserved : goal.loop-i-preserved

@@ -8,11 +8,11 @@ use Rattle.sheet.specs.Fields.{numeral}
 use Rattle.sheet.proofs.Texts.{all_here, all_stops, value_here, bound_here}
 use Rattle.sheet.proofs.fields.value_of.Goals as goal
 
-pub returns-then-not-is-ascii-digit : goal.returns-then-not-is-ascii-digit
-returns-then-not-is-ascii-digit c =
+pub returns-then-not-is_ascii_digit : goal.returns-then-not-is_ascii_digit
+returns-then-not-is_ascii_digit c =
     let v : all_ascii_digits c.args.digits.now ≡ false =
     sym c.loop-d.invariant.1
-    ∙ all_stops c.args.digits.now c.loop-d.d-index c.loop-d-test.true (is_in_range 48 57) all_ascii_digits (λ _ _. refl) (sym c.if-not-is-ascii-digit.ensures.value) in
+    ∙ all_stops c.args.digits.now c.loop-d.d-index c.loop-d-test.true (is_in_range 48 57) all_ascii_digits (λ _ _. refl) (sym c.if-not-is_ascii_digit.ensures.value) in
     let n : numeral c.args.digits.now ≡ false = grind (arith, nat_tests) in
     ap (λ b. cond b (Some (digits_value 10 c.args.digits.now)) None) (sym n)
 
@@ -20,7 +20,7 @@ pub loop-d-preserved : goal.loop-d-preserved
 loop-d-preserved c =
     let ds = c.args.digits.now in
     let i = c.loop-d.d-index in
-    let e = sym c.if-not-is-ascii-digit.ensures.value in
+    let e = sym c.if-not-is_ascii_digit.ensures.value in
     simp c.from.ensures (
       sym (value_here ds i c.loop-d.total c.loop-d-test.true e) ∙ c.loop-d.invariant.0,
       sym (all_here ds i c.loop-d-test.true (is_in_range 48 57) all_ascii_digits (λ _ _. refl) e) ∙ c.loop-d.invariant.1,
@@ -31,7 +31,7 @@ pub returns : goal.returns
 returns c =
     let ds = c.args.digits.now in
     let v : all_ascii_digits ds ≡ true = sym c.loop-d.invariant.1 ∙ at_drop_all all_ascii_digits ds c.loop-d.d-index c.loop-d-test.false in
-    let e = c.if-is-empty.ensures in
+    let e = c.if-is_empty.ensures in
     let n : numeral ds ≡ true = grind (arith, nat_tests) in
     let t : c.loop-d.total ≡ digits_value 10 ds = sym (at_drop_all (digits_value_after 10 c.loop-d.total) ds c.loop-d.d-index c.loop-d-test.false) ∙ c.loop-d.invariant.0 in
     ap Some t ∙ ap (λ b. cond b (Some (digits_value 10 ds)) None) (sym n)

@@ -1,6 +1,6 @@
 use Rattle.std.proofs.Common.{◌≡◌, ℕ, ◌<◌, ◌≤◌, true, [], map, get_or, set}
 use Rattle.plan.specs.Rows.{row_of}
-use Rattle.check.specs.Sound.{loads}
+use Rattle.date_check.specs.Sound.{loads}
 use Rattle.analysis.specs.Workings.{marked}
 use Rattle.analysis.proofs.tables.Meetings.add.Given as goal
 

@@ -6,7 +6,7 @@ use Rattle.layers.specs.Alternations.{alternating, alternates}
 use Rattle.layers.specs.Layers.{layer_moves}
 use Rattle.layers.specs.Pairs.{pair_waiting, pair_last, AfterDraw}
 use Rattle.layers.proofs.Calls.{picking}
-use Rattle.layers.proofs.MakeLaws.{alternates_leads}
+use Rattle.layers.specs.MakeLaws.{alternates_leads}
 use Rattle.layers.proofs.alternation.Alternation.pick_side.Goals as goal
 
 pub returns : goal.returns

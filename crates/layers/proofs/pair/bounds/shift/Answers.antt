@@ -1,5 +1,5 @@
 use Rattle.std.proofs.Common.{◌≡◌, ◌-◌, get_or, refl, ◌∙◌, subst, arith, length-set}
-use Rattle.layers.proofs.Shifts.{Moved, moved_start, moved_next, moved_end}
+use Rattle.layers.specs.Shifts.{Moved, moved_start, moved_next, moved_end}
 use Rattle.layers.proofs.pair.bounds.shift.Goals as goal
 
 pub loop-o-init : goal.loop-o-init

@@ -1,5 +1,5 @@
 use Rattle.std.proofs.Common.{◌≡◌, length}
-use Rattle.layers.proofs.Shifts.{Moved}
+use Rattle.layers.specs.Shifts.{Moved}
 use Rattle.layers.proofs.pair.bounds.shift.Given as goal
 
 abbrev pub invariant-loop-o : goal.invariant-loop-o

@@ -6,7 +6,7 @@ use Rattle.layers.specs.Precedences.{preceding, precedes}
 use Rattle.layers.specs.Layers.{layer_moves}
 use Rattle.layers.specs.Pairs.{pair_waiting, pair_last, AfterDraw}
 use Rattle.layers.proofs.Calls.{picking}
-use Rattle.layers.proofs.MakeLaws.{precedes_leads}
+use Rattle.layers.specs.MakeLaws.{precedes_leads}
 use Rattle.layers.proofs.precedence.Precedence.pick_side.Goals as goal
 
 pub returns : goal.returns

@@ -2,5 +2,5 @@ use Rattle.plan.specs.Plans.{closed}
 use Rattle.plan.proofs.Keeping.{known}
 use Rattle.plan.proofs.closed.ClosedPlan.demand.Goals as goal
 
-pub banks-of-requires : goal.banks-of-requires
-banks-of-requires c = (known (closed c.args.self.now) c.args.self.now.kept).headed
+pub banks_of-requires : goal.banks_of-requires
+banks_of-requires c = (known (closed c.args.self.now) c.args.self.now.kept).headed

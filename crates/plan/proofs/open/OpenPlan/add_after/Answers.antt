@@ -24,33 +24,33 @@ module _ (s : OpenPlan) (k : ℕ) (pass : after_refusal (opened s) k ≡ None) w
       let here = subst (λ m. old ≡ get_or (vec_items s.tasks) (m - 1) old) all read in
       subst (λ x. vec_capacity x.after ≤ vec_len x.after) (same_task (vec_items s.tasks) (vec_len s.tasks - 1) t old (omega (arith, some, s.tasks.ok.0)) found here) h
 
-pub overflow-sub-newest : goal.overflow-sub-newest
-overflow-sub-newest c = omega (arith, some c.args.self.now c.args.k c.requires)
+pub overflow_sub-newest : goal.overflow_sub-newest
+overflow_sub-newest c = omega (arith, some c.args.self.now c.args.k c.requires)
 
-pub index-mut-requires : goal.index-mut-requires
-index-mut-requires c = omega (arith, some c.args.self.now c.args.k c.requires)
+pub index_mut-requires : goal.index_mut-requires
+index_mut-requires c = omega (arith, some c.args.self.now c.args.k c.requires)
 
-pub invariant-of-self : goal.invariant-of-self
-invariant-of-self c =
+pub invariant_of-self : goal.invariant_of-self
+invariant_of-self c =
     let s = c.args.self.now in
     let b = is_ok c.push.result in
-    let e = tried s c.args.k c.requires c.len-newest.result c.index-mut.result.now c.push.new.self b c.len-newest.ensures c.index-mut.ensures.value c.push.ensures.items in
+    let e = tried s c.args.k c.requires c.len-newest.result c.index_mut.result.now c.push.new.self b c.len-newest.ensures c.index_mut.ensures.value c.push.ensures.items in
     let old = known (opened s) s.kept in
-    (∣ subst Kept (sym e) (kept_either b (opened s) (with_after (opened s) c.args.k) old (after_kept (opened s) c.args.k old c.requires)) ∣₁, tt)
+    record { kept = ∣ subst Kept (sym e) (kept_either b (opened s) (with_after (opened s) c.args.k) old (after_kept (opened s) c.args.k old c.requires)) ∣₁ }
 
-pub returns-in-err-push : goal.returns-in-err-push
-returns-in-err-push c =
+pub returns-in_err-push : goal.returns-in_err-push
+returns-in_err-push c =
     let s = c.args.self.now in
-    let old = c.index-mut.result.now in
-    let e = tried s c.args.k c.requires c.len-newest.result old c.push.new.self false c.len-newest.ensures c.index-mut.ensures.value c.in-err-push.ensures.items in
-    let p = err_from_is_err_and c.from-residual.result c.from-residual.ensures.1 in
+    let old = c.index_mut.result.now in
+    let e = tried s c.args.k c.requires c.len-newest.result old c.push.new.self false c.len-newest.ensures c.index_mut.ensures.value c.in_err-push.ensures.items in
+    let p = err_from_is_err_and c.from_residual.result c.from_residual.ensures.1 in
     record {
       tried = rw (p.1, p.2) (refl, e);
-      memory = λ h t read. full s c.args.k c.requires c.len-newest.result old t c.len-newest.ensures c.index-mut.ensures.value read c.in-err-push.ensures.full;
+      memory = λ h t read. full s c.args.k c.requires c.len-newest.result old t c.len-newest.ensures c.index_mut.ensures.value read c.in_err-push.ensures.full;
     }
 
 pub returns : goal.returns
 returns c = record {
-  tried = tried c.args.self.now c.args.k c.requires c.len-newest.result c.index-mut.result.now c.push.new.self true c.len-newest.ensures c.index-mut.ensures.value c.in-ok-push.ensures.items;
+  tried = tried c.args.self.now c.args.k c.requires c.len-newest.result c.index_mut.result.now c.push.new.self true c.len-newest.ensures c.index_mut.ensures.value c.in_ok-push.ensures.items;
   memory = λ h. let z : ◌≡◌ {A = ℕ} 0 1 = cc in absurd (omega arith);
 }

@@ -9,18 +9,18 @@ use Rattle.plan.proofs.open.OpenPlan.add_task.Goals as goal
 fresh : (place cycles earliest : ℕ) (xs : List ℕ) → xs ≡ [] → record { place = place; cycles = cycles; earliest = earliest; demands = replicate 16 0; after = xs } ≡ new_row place cycles earliest
 fresh place cycles earliest xs e = ap (λ ys. record { place = place; cycles = cycles; earliest = earliest; demands = replicate 16 0; after = ys }) e
 
-pub invariant-of-self : goal.invariant-of-self
-invariant-of-self c =
+pub invariant_of-self : goal.invariant_of-self
+invariant_of-self c =
     let s = c.args.self.now in
     let b = is_ok c.push.result in
     let e = task_tried s.head (vec_items s.tasks) (vec_items c.push.new.self) _ b c.args.place c.args.cycles c.args.earliest (fresh c.args.place c.args.cycles c.args.earliest _ c.new.ensures.items) c.push.ensures.items in
     let old = known (opened s) s.kept in
-    (∣ subst Kept (sym e) (kept_either b (opened s) _ old (task_kept (opened s) c.args.place c.args.cycles c.args.earliest old c.requires)) ∣₁, tt)
+    record { kept = ∣ subst Kept (sym e) (kept_either b (opened s) _ old (task_kept (opened s) c.args.place c.args.cycles c.args.earliest old c.requires)) ∣₁ }
 
 pub returns : goal.returns
 returns c =
     let s = c.args.self.now in
     record {
-      tried = task_tried s.head (vec_items s.tasks) (vec_items c.push.new.self) _ true c.args.place c.args.cycles c.args.earliest (fresh c.args.place c.args.cycles c.args.earliest _ c.new.ensures.items) c.in-ok-push.ensures.items;
+      tried = task_tried s.head (vec_items s.tasks) (vec_items c.push.new.self) _ true c.args.place c.args.cycles c.args.earliest (fresh c.args.place c.args.cycles c.args.earliest _ c.new.ensures.items) c.in_ok-push.ensures.items;
       memory = λ h. let z : ◌≡◌ {A = ℕ} 0 1 = cc in absurd (omega arith);
     }

@@ -1,8 +1,8 @@
 use Rattle.std.proofs.Common.{refl}
 use Rattle.std.proofs.lemmas.Bool.{lt-ltb}
 use Rattle.plan.specs.Plans.{closed}
-use Rattle.check.specs.Sound.{period_of}
-use Rattle.check.proofs.Reading.{kept_of}
+use Rattle.date_check.specs.Sound.{period_of}
+use Rattle.date_check.proofs.Reading.{kept_of}
 use Rattle.run.proofs.Limits.{head_limits}
 use Rattle.run.proofs.state.Run.begin.Goals as goal
 

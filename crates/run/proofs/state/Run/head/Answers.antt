@@ -1,5 +1,5 @@
 use Rattle.std.proofs.Common.{arith}
-use Rattle.check.proofs.Reading.{kept_of}
+use Rattle.date_check.proofs.Reading.{kept_of}
 use Rattle.run.specs.Views.{planned}
 use Rattle.run.proofs.Limits.{head_limits}
 use Rattle.run.proofs.state.Run.head.Goals as goal

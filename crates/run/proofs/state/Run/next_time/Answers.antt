@@ -1,7 +1,7 @@
 use Rattle.std.proofs.Common.{◌≡◌, ℕ, ◌<◌, true, ◌||◌, ltb, None, Option, sym, refl, ap, ◌∙◌, arith}
 use Rattle.std.proofs.lemmas.Bool.{ltb-true}
-use Rattle.check.specs.Sound.{period_of}
-use Rattle.check.proofs.Reading.{kept_of, short_period}
+use Rattle.date_check.specs.Sound.{period_of}
+use Rattle.date_check.proofs.Reading.{kept_of, short_period}
 use Rattle.cluster.specs.declared.breach.Breach.{Breach}
 use Rattle.cluster.specs.Cycles.{is_some}
 use Rattle.run.specs.Views.{planned}

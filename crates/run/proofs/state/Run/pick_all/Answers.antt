@@ -1,7 +1,7 @@
 use Rattle.std.proofs.Common.{suc, sym, refl, ap, subst, add-one}
 use Rattle.arbiter.specs.Given.{model}
 use Rattle.plan.specs.Plans.{closed}
-use Rattle.check.specs.Sound.{latency_of}
+use Rattle.date_check.specs.Sound.{latency_of}
 use Rattle.cluster.specs.Cycles.{Turn, Turns, next_turn, no_turn}
 use Rattle.run.specs.Views.{planned, state}
 use Rattle.run.proofs.Steps.{stays_then}

@@ -1,5 +1,5 @@
 use Rattle.arbiter.specs.Given.{model}
-use Rattle.check.specs.Sound.{latency_of}
+use Rattle.date_check.specs.Sound.{latency_of}
 use Rattle.cluster.specs.Cycles.{Turns}
 use Rattle.run.specs.Views.{Stays, planned, state}
 use Rattle.run.proofs.state.Run.pick_all.Given as goal

@@ -1,5 +1,5 @@
 use Rattle.std.proofs.Common.{◌≡◌, length, arith}
-use Rattle.check.proofs.Reading.{kept_of, read_count}
+use Rattle.date_check.proofs.Reading.{kept_of, read_count}
 use Rattle.run.specs.Views.{planned}
 use Rattle.run.proofs.state.Run.rows.Goals as goal
 

@@ -1,5 +1,5 @@
 use Rattle.std.proofs.Common.{arith}
-use Rattle.check.proofs.Reading.{kept_of}
+use Rattle.date_check.proofs.Reading.{kept_of}
 use Rattle.run.proofs.state.Run.stage_at.Goals as goal
 
 pub bounds-self-row : goal.bounds-self-row

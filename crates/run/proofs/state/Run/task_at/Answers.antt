@@ -1,5 +1,5 @@
 use Rattle.std.proofs.Common.{◌≡◌, ◌<◌, length, arith}
-use Rattle.check.proofs.Reading.{kept_of, read_count, read_place, read_row}
+use Rattle.date_check.proofs.Reading.{kept_of, read_count, read_place, read_row}
 use Rattle.run.proofs.state.Run.task_at.Goals as goal
 
 pub bounds-tasks-row : goal.bounds-tasks-row

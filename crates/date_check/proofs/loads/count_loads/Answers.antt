@@ -1,0 +1,62 @@
+use Rattle.std.proofs.Common.{◌≡◌, ◌+◌, length, sym, subst, arith}
+use Rattle.plan.specs.Plans.{closed}
+use Rattle.plan.specs.Rows.{row_of}
+use Rattle.date_check.specs.Sound.{meets}
+use Rattle.date_check.proofs.Counting.{Counted, counted_all, counted_apart, counted_met, counted_none}
+use Rattle.date_check.proofs.Limits.{load_limit}
+use Rattle.date_check.proofs.Reading.{kept_of, read_accesses, read_below, read_count, read_place, read_row}
+use Rattle.date_check.proofs.loads.count_loads.Goals as goal
+use Rattle.date_check.proofs.loads.count_loads.Goals.{then-tasks-meet, else-tasks-meet}
+
+pub loop-k-init : goal.loop-k-init
+loop-k-init c = counted_none (closed c.args.plan.now).rows (meets (closed c.args.plan.now).rows c.args.dates.now c.args.i) c.args.bank
+
+pub tasks-meet-requires : goal.tasks-meet-requires
+tasks-meet-requires c = (c.requires.0, (read_below c.args.plan.now c.tasks-task-items.result.now c.tasks-task-items.ensures c.loop-k.k c.task-item.result c.loop-k-test.true c.task-item.is, c.requires.1.0))
+
+pub bounds-counts-task : goal.bounds-counts-task
+bounds-counts-task c = read_place c.args.plan.now c.tasks-task-items.result.now c.tasks-task-items.ensures c.loop-k.k c.task-item.result c.loop-k-test.true c.task-item.is
+
+pub offset-bounds-counts-task : goal.offset-bounds-counts-task
+offset-bounds-counts-task c = omega (arith, bounds-counts-task c)
+
+pub bounds-counts-task-then-tasks-meet : goal.bounds-counts-task-then-tasks-meet
+bounds-counts-task-then-tasks-meet c = read_place c.args.plan.now c.tasks-task-items.result.now c.tasks-task-items.ensures c.loop-k.k c.task-item.result c.loop-k-test.true c.task-item.is
+
+pub overflow-add-counts : goal.overflow-add-counts
+overflow-add-counts c =
+    let plan = c.args.plan.now in
+    let tasks = c.tasks-task-items.result.now in
+    let k = c.loop-k.k in
+    let t = c.task-item.result in
+    let few = read_count plan tasks c.tasks-task-items.ensures in
+    omega (
+      arith,
+      c.loop-k.invariant.1 t.place (bounds-counts-task-then-tasks-meet c),
+      load_limit (closed plan) (kept_of plan) (meets (closed plan).rows c.args.dates.now c.args.i) k c.args.bank t.place (omega (arith, few, c.loop-k-test.true)),
+      read_accesses plan tasks c.tasks-task-items.ensures k t c.loop-k-test.true c.task-item.is c.args.bank,
+      (kept_of plan).few,
+      few,
+      c.loop-k-test.true,
+    )
+
+pub loop-k-preserved : goal.loop-k-preserved
+loop-k-preserved c =
+    let plan = c.args.plan.now in
+    let rows = (closed plan).rows in
+    let tasks = c.tasks-task-items.result.now in
+    let met = meets rows c.args.dates.now c.args.i in
+    let k = c.loop-k.k in
+    let t = c.task-item.result in
+    let same = c.tasks-task-items.ensures in
+    elim c.if-tasks-meet.branch [
+      | then-tasks-meet w ↦ subst (Counted rows met c.args.bank (k + 1)) (sym w.counts-is) (counted_met rows met c.args.bank k c.loop-k.counts (row_of t) c.loop-k.invariant w.if-tasks-meet.ensures (read_row plan tasks same k t c.loop-k-test.true c.task-item.is) (read_place plan tasks same k t c.loop-k-test.true c.task-item.is))
+      | else-tasks-meet w ↦ subst (Counted rows met c.args.bank (k + 1)) (sym w.counts-is) (counted_apart rows met c.args.bank k c.loop-k.counts c.loop-k.invariant w.if-tasks-meet.ensures)
+    ]
+
+pub returns : goal.returns
+returns c =
+    let plan = c.args.plan.now in
+    let rows = (closed plan).rows in
+    let all : c.loop-k.k ≡ length rows = omega (arith, c.loop-k-test.false, c.loop-k.auto.k-end, read_count plan c.tasks-task-items.result.now c.tasks-task-items.ensures) in
+    counted_all rows (meets rows c.args.dates.now c.args.i) c.args.bank c.loop-k.counts (subst (λ n. Counted rows (meets rows c.args.dates.now c.args.i) c.args.bank n c.loop-k.counts) all c.loop-k.invariant)
