@@ -14,7 +14,7 @@ use Rattle.cluster.specs.Cycles.{Turns, all_ended, end_service, overdue, release
 use Rattle.cluster.specs.States.{State, each, fresh, place_of, stage_of}
 
 module _ {A : Type 0} (m : Model A) (p : Plan) (table : List Dates) (arbiters : List A) where
-  -- The states that a run comes to: from its set_up through any list of asks, cycles and questions, taken or refused.
+  -- The states that a run comes to: from its set-up through any list of asks, cycles and questions, taken or refused.
   pub data Comes : State A → Type 0 where
     sets_up : Comes (set_up p table arbiters)
     asks : {s t : State A} (q b : ℕ) (r : Result (Unit {0}) CallRefusal) → Comes s → Ask m p s q b r t → Comes t
@@ -28,7 +28,7 @@ module _ {A : Type 0} (m : Model A) (p : Plan) (table : List Dates) (arbiters : 
     pub unbroken : from.breach ≡ None
     pub turns : Turns m (latency_of p.head) n from t
 
-  -- The states in which the release date of row i is looked at, in set_up or in a cycle: the rows before it have been.
+  -- The states in which the release date of row i is looked at, in set-up or in a cycle: the rows before it have been.
   pub data BeforeRelease (i : ℕ) : State A → Type 0 where
     in_set_up : BeforeRelease i (releases p table i (fresh arbiters))
     in_cycle : {t : State A} → Begun (banks_of p.head) t → overdue p table (worked p t) ≡ None → BeforeRelease i (releases p table i (wrapped p (worked p t)))
@@ -45,7 +45,7 @@ module _ {A : Type 0} (m : Model A) (p : Plan) (table : List Dates) (arbiters : 
     retires : {n : ℕ} {t : State A} → n ≤ places_of p.head → Begun (banks_of p.head) t → Moment (each n retire (all_ended p (used t)))
     -- when time has grown and finish dates are looked at,
     looks : {t : State A} → Begun (banks_of p.head) t → Moment (worked p t)
-    -- and while rows are released, in set_up too.
+    -- and while rows are released, in set-up too.
     frees : {i : ℕ} {s : State A} → i ≤ length p.rows → BeforeRelease i s → Moment s
 
   -- No breach stands, and whoever is at work has not come to its finish date.

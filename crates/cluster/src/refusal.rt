@@ -2,7 +2,7 @@
 ghost use Rattle.std.specs.Prelude.{◌≡◌};
 ghost use Rattle.cluster.specs.Refusals.{call_number, set_up_number};
 
-// Why a set_up is refused.
+// Why a set-up is refused.
 #[derive(Clone, Copy, PartialEq, Eq, Debug)]
 pub enum SetUpRefusal {
     // The plan has no task.

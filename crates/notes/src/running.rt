@@ -105,7 +105,7 @@ fn tell<A: Arbiter>(
     Ok(())
 }
 
-// Only what was set up is run; a refused set_up hands its arbiters back.
+// Only what was set up is run; a refused set-up hands its arbiters back.
 pub(crate) fn period<'r, A: Arbiter + Drop>(
     rt: &HostRuntime,
     plan: &'r ClosedPlan,

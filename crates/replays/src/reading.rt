@@ -48,7 +48,7 @@ fn read_call(line: Line) -> anyhow::Result<Call> {
     Ok(call)
 }
 
-// A post before the set_up is never refused.
+// A post before the set-up is never refused.
 fn read_answer(line: Line) -> anyhow::Result<Answer> {
     let answer = match line.letter() {
         b'B' => Answer::Done(0),

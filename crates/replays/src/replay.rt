@@ -34,7 +34,7 @@ fn checked_row(refusal: Refusal) -> usize {
     }
 }
 
-// The row that a refusal of a set_up names, or 0.
+// The row that a refusal of a set-up names, or 0.
 fn set_up_row(refusal: SetUpRefusal) -> usize {
     match refusal {
         SetUpRefusal::Late(row) => row,

@@ -3,7 +3,7 @@
 #[derive(Clone, Copy)]
 pub(crate) enum Question {
     Check,
-    // Before the set_up a source posts at a bank's arbiter, and perhaps a pick follows.
+    // Before the set-up a source posts at a bank's arbiter, and perhaps a pick follows.
     Post {
         bank: usize,
         source: usize,

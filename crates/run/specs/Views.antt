@@ -35,7 +35,7 @@ module _ {A : Type 0} where
     pub leaves : state q ≡ step (state r)
     pub stays : Stays r q
 
-  -- A refused set_up hands its arbiters back; else there is a run with this plan and these dates, in the state that set_up leaves.
+  -- A refused set-up hands its arbiters back; else there is a run with this plan and these dates, in the state that set-up leaves.
   abbrev pub SetsUp : Option SetUpRefusal → ClosedPlan → List Dates → List A → Result (Run A) (Refused A) → Type 0
   SetsUp (Some f) plan dates arbiters (Ok r) = ⊥
   SetsUp (Some f) plan dates arbiters (Err e) = (e.refusal ≡ f) × (vec_items e.arbiters ≡ arbiters)

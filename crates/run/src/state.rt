@@ -42,7 +42,7 @@ pub struct Run<'r, A: Arbiter> {
     ghost timed: { (is_some breach || nat_lt time (period_of (closed plan.now).head)) ≡ true },
 }
 
-// A set_up that was refused, and the arbiters as they were.
+// A set-up that was refused, and the arbiters as they were.
 #[derive(Drop)]
 pub struct Refused<A: Arbiter> {
     pub refusal: SetUpRefusal,

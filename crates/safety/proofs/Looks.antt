@@ -128,7 +128,7 @@ module _ {A : Type 0} (c : Setting A) where
         (λ e. renewed_sane (eqb-true w.time (period_of c.plan.head) e))
         (λ e. h)
 
-  -- A new period begins as set_up does, but for the arbiters' states.
+  -- A new period begins as set-up does, but for the arbiters' states.
   pub wrap_well : (w : State A) → Well c 0 w → Well c 0 (wrapped c.plan w)
   wrap_well w h =
       cond_both (eqb w.time (period_of c.plan.head)) (with_stages (with_time w 0) (replicate 256 Ahead)) w (Well c 0)

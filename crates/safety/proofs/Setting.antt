@@ -1,4 +1,4 @@
--- What stays in a run, and the facts that set_up asked for.
+-- What stays in a run, and the facts that set-up asked for.
 use Rattle.std.proofs.Common.{◌≡◌, ℕ, ◌-◌, ◌<◌, ◌≤◌, Bool, false, List, length, get_or, Some, None, Option}
 use Rattle.plan.specs.Rows.{Plan, accesses, row}
 use Rattle.plan.specs.Rules.{Kept, banks_of, places_of}
@@ -53,7 +53,7 @@ module _ {A : Type 0} (c : Setting A) where
   abbrev pub met_by : ℕ → ℕ → Bool
   met_by t = meets c.plan.rows c.table t
 
-  -- The arbiter of bank b at set_up.
+  -- The arbiter of bank b at set-up.
   abbrev pub first : ℕ → A
   first b = get_or c.arbiters b c.some
 

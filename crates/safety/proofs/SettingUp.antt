@@ -1,4 +1,4 @@
--- What set_up asked for, and what the check asks for.
+-- What set-up asked for, and what the check asks for.
 use Rattle.std.proofs.Common.{◌≡◌, ℕ, zero, suc, ◌<◌, ◌≤◌, true, false, not, eqb, ltb, leb, List, [], ◌∷◌, length, get_or, Some, None, Option, sym, refl, ap, ◌∙◌, inl, inr, arith}
 use Rattle.std.proofs.lemmas.Bool.{and_from, and_parts, cases_Bool, cases_eq, eq-eqb, eqb-true, le-leb, le-ltb, leb-true, lt-ltb, ltb-false, ltb-true, not-true}
 use Rattle.std.proofs.lemmas.Bool.Decides.{nat_tests}
@@ -58,7 +58,7 @@ wide_yes : {A : Type 0} (m : Model A) (places : ℕ) (xs : List A) → All (λ x
 wide_yes m places [] h = refl
 wide_yes m places (x ∷ xs) h = and_from (leb places (m.width x)) (all_wide m places xs) (le-leb places (m.width x) h.0) (wide_yes m places xs h.1)
 
--- What set_up takes, with a as any arbiter.
+-- What set-up takes, with a as any arbiter.
 pub record Taken {A : Type 0} (m : Model A) (p : Plan) (table : List Dates) (arbiters : List A) (a : A) : Type 0 where
   pub one_per_bank : length arbiters ≡ banks_of p.head
   pub wide : (b : ℕ) → b < banks_of p.head → places_of p.head ≤ m.width (get_or arbiters b a)

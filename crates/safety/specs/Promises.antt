@@ -13,7 +13,7 @@ use Rattle.cluster.specs.Runs.{Unbreached}
 abbrev pub CheckExact : {A : Type 0} → Model A → Type 0
 CheckExact {A} m = (p : Plan) (table : List Dates) (arbiters : List A) → Kept p → Exact m p arbiters table (verdict m p arbiters table)
 
--- What the check passes, set_up takes as long as nobody waits at the arbiters, and no run under it breaches.
+-- What the check passes, set-up takes as long as nobody waits at the arbiters, and no run under it breaches.
 abbrev pub CheckedUnbreached : {A : Type 0} → Model A → Type 0
 CheckedUnbreached {A} m = (p : Plan) (table : List Dates) (arbiters : List A) → Kept p → verdict m p arbiters table ≡ Ok tt → all_quiet m arbiters ≡ true → (set_up_refusal m p table arbiters ≡ None) × Unbreached m p table arbiters
 

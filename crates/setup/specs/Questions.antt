@@ -1,4 +1,4 @@
--- What set_up asks, and what a run rests on.
+-- What set-up asks, and what a run rests on.
 use Rattle.std.specs.Prelude.{◌≡◌, ◌≤◌, List, length, Option}
 use Rattle.plan.specs.Rows.{Plan}
 use Rattle.plan.specs.Rules.{banks_of}

@@ -1,4 +1,4 @@
-// What set_up asks.
+// What set-up asks.
 ghost use Rattle.std.specs.Prelude.{◌≡◌, ◌<◌, ◌≤◌, true, length, IfNone};
 ghost use Rattle.plan.specs.Plans.{closed};
 ghost use Rattle.plan.specs.Rules.{banks_of};
