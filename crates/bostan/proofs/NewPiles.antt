@@ -1,12 +1,10 @@
 -- A pile of new rings is a new pile.
-use Rattle.std.proofs.Common.{◌≡◌, ℕ, ◌-◌, Bool, false, cond, ◌&&◌, ltb, ap, ◌∙◌, inl, inr}
+use Rattle.std.proofs.Common.{◌≡◌, ℕ, ◌-◌, Bool, false, cond, None, ◌&&◌, ltb, ap, ◌∙◌, inl, inr}
 use Rattle.std.proofs.lemmas.Bool.{cases_Bool, and_right}
 use Rattle.arbiter.specs.Meaning.{Model}
 use Rattle.rings.specs.Rings.{ring, NewRing}
 use Rattle.layers.specs.declared.pair.Pair.{Pair}
-use Rattle.layers.specs.Alternations.{new_alternation}
 use Rattle.layers.specs.Pairs.{fits, pair_waiting}
-use Rattle.layers.specs.Precedences.{new_precedence}
 use Rattle.bostan.specs.Piles.{Pile, bostan_low, low_side, cores, units, receive, NewPile}
 
 -- Where nobody waits at either side, nobody waits.
@@ -18,14 +16,12 @@ pair_idle l r a h k s =
       | inr e ↦ ap here e ∙ and_right (fits l r a) (r.waiting a.second (s - l.width a.first)) (k (s - l.width a.first))
     ]
 
-pub new_pile : (a : Pile) → NewRing 16 (cores a) → NewRing 3 (units a) → NewRing 1 (receive a) → low_side a ≡ new_alternation (cores a) (units a) → a ≡ new_precedence (low_side a) (receive a) → NewPile a
-new_pile a x y z low whole = record {
+pub new_pile : (a : Pile) → NewRing 16 (cores a) → NewRing 3 (units a) → NewRing 1 (receive a) → a.pair.latest ≡ None → NewPile a
+new_pile a x y z t = record {
   new_cores = x;
   new_units = y;
   new_receive = z;
-  new_low = low;
-  new_whole = whole;
   width = rw (x.width, y.width, z.width);
   idle = pair_idle bostan_low ring a.pair (pair_idle ring ring (low_side a).pair x.idle y.idle) z.idle;
-  last = rw (ap (λ p. p.pair.latest) whole);
+  last = rw t;
 }

@@ -34,13 +34,16 @@ units a = (low_side a).pair.second
 abbrev pub receive : Pile → Ring
 receive a = a.pair.second
 
--- A new pile has 16 cores, 3 units and network receive, in layers that have not picked from a side yet; nobody waits, and nobody was picked.
+-- A new pile has 16 cores, 3 units and network receive; nobody waits, and nobody was picked.
 pub record NewPile (a : Pile) : Type 0 where
   pub new_cores : NewRing 16 (cores a)
   pub new_units : NewRing 3 (units a)
   pub new_receive : NewRing 1 (receive a)
-  pub new_low : low_side a ≡ new_alternation (cores a) (units a)
-  pub new_whole : a ≡ new_precedence (low_side a) (receive a)
   pub width : bostan.width a ≡ 20
   pub idle : (s : ℕ) → bostan.waiting a s ≡ false
   pub last : bostan.last a ≡ None
+
+-- Its layers have not picked from a side yet.
+pub record IsUnpicked (a : Pile) : Type 0 where
+  pub low : low_side a ≡ new_alternation (cores a) (units a)
+  pub whole : a ≡ new_precedence (low_side a) (receive a)

@@ -4,7 +4,7 @@
 ghost use Rattle.std.specs.Prelude.{◌≡◌, true};
 ghost use Rattle.arbiter.specs.Laws.{Lawful};
 ghost use Rattle.rings.specs.Rings.{NewRing};
-ghost use Rattle.bostan.specs.Piles.{bostan, NewPile};
+ghost use Rattle.bostan.specs.Piles.{bostan, IsUnpicked, NewPile};
 ghost use Rattle.bostan.specs.Worked.{WorkedBounds};
 
 use arbiter::Arbiter;
@@ -17,14 +17,16 @@ pub type Pile = Precedence<Alternation<Ring, Ring>, Ring>;
 // A ring of cores takes turns with a ring of units, and network receive goes before both.
 fn stacked(cores: Ring, units: Ring, receive: Ring) -> Pile
     requires { NewRing 16 cores × NewRing 3 units × NewRing 1 receive }
-    ensures { NewPile result }
+    ensures made { NewPile result }
+    ensures unpicked { IsUnpicked result }
 {
     Precedence::new(Alternation::new(cores, units), receive)
 }
 
-// A new pile: nobody waits, and nobody was picked.
+// A new pile: nobody waits, nobody was picked, and its layers have not picked from a side yet.
 pub fn pile() -> Pile
-    ensures { NewPile result }
+    ensures made { NewPile result }
+    ensures unpicked { IsUnpicked result }
 {
     stacked(Ring::new(16), Ring::new(3), Ring::new(1))
 }
