@@ -5,11 +5,11 @@ use Rattle.arbiter.specs.Given.{model}
 use Rattle.date_check.proofs.Passing.{rows_more, rows_refused}
 use Rattle.date_check.proofs.conditions.judge_rows.Goals as goal
 
-pub returns-in-err-judge-row : goal.returns-in-err-judge-row
-returns-in-err-judge-row g c =
+pub returns-in_err-judge_row : goal.returns-in_err-judge_row
+returns-in_err-judge_row g c =
     let plan = closed c.args.plan.now in
-    let e = err_from_is_err_and c.from-residual.result c.from-residual.ensures.1 in
-    rw (e.1, e.2) (rows_refused (model g.A.Arbiter) plan c.args.arbiters.now c.args.dates.now (length plan.rows) c.loop-i.i c.in-err-judge-row.field-0.0 (omega arith) c.loop-i.invariant c.in-err-judge-row.ensures)
+    let e = err_from_is_err_and c.from_residual.result c.from_residual.ensures.1 in
+    rw (e.1, e.2) (rows_refused (model g.A.Arbiter) plan c.args.arbiters.now c.args.dates.now (length plan.rows) c.loop-i.i c.in_err-judge_row.field-0.0 (omega arith) c.loop-i.invariant c.in_err-judge_row.ensures)
 
 pub loop-i-preserved : goal.loop-i-preserved
-loop-i-preserved g c = rows_more (model g.A.Arbiter) (closed c.args.plan.now) c.args.arbiters.now c.args.dates.now c.loop-i.i c.loop-i.invariant c.in-ok-judge-row.ensures
+loop-i-preserved g c = rows_more (model g.A.Arbiter) (closed c.args.plan.now) c.args.arbiters.now c.args.dates.now c.loop-i.i c.loop-i.invariant c.in_ok-judge_row.ensures

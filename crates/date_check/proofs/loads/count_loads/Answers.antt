@@ -6,25 +6,25 @@ use Rattle.date_check.proofs.Counting.{Counted, counted_all, counted_apart, coun
 use Rattle.date_check.proofs.Limits.{load_limit}
 use Rattle.date_check.proofs.Reading.{kept_of, read_accesses, read_below, read_count, read_place, read_row}
 use Rattle.date_check.proofs.loads.count_loads.Goals as goal
-use Rattle.date_check.proofs.loads.count_loads.Goals.{then-tasks-meet, else-tasks-meet}
+use Rattle.date_check.proofs.loads.count_loads.Goals.{then-tasks_meet, else-tasks_meet}
 
 pub loop-k-init : goal.loop-k-init
 loop-k-init c = counted_none (closed c.args.plan.now).rows (meets (closed c.args.plan.now).rows c.args.dates.now c.args.i) c.args.bank
 
-pub tasks-meet-requires : goal.tasks-meet-requires
-tasks-meet-requires c = (c.requires.0, (read_below c.args.plan.now c.tasks-task-items.result.now c.tasks-task-items.ensures c.loop-k.k c.task-item.result c.loop-k-test.true c.task-item.is, c.requires.1.0))
+pub tasks_meet-requires : goal.tasks_meet-requires
+tasks_meet-requires c = (c.requires.0, (read_below c.args.plan.now c.tasks-task-items.result.now c.tasks-task-items.ensures c.loop-k.k c.task-item.result c.loop-k-test.true c.task-item.is, c.requires.1.0))
 
 pub bounds-counts-task : goal.bounds-counts-task
 bounds-counts-task c = read_place c.args.plan.now c.tasks-task-items.result.now c.tasks-task-items.ensures c.loop-k.k c.task-item.result c.loop-k-test.true c.task-item.is
 
-pub offset-bounds-counts-task : goal.offset-bounds-counts-task
-offset-bounds-counts-task c = omega (arith, bounds-counts-task c)
+pub offset_bounds-counts-task : goal.offset_bounds-counts-task
+offset_bounds-counts-task c = omega (arith, bounds-counts-task c)
 
-pub bounds-counts-task-then-tasks-meet : goal.bounds-counts-task-then-tasks-meet
-bounds-counts-task-then-tasks-meet c = read_place c.args.plan.now c.tasks-task-items.result.now c.tasks-task-items.ensures c.loop-k.k c.task-item.result c.loop-k-test.true c.task-item.is
+pub bounds-counts-task-then-tasks_meet : goal.bounds-counts-task-then-tasks_meet
+bounds-counts-task-then-tasks_meet c = read_place c.args.plan.now c.tasks-task-items.result.now c.tasks-task-items.ensures c.loop-k.k c.task-item.result c.loop-k-test.true c.task-item.is
 
-pub overflow-add-counts : goal.overflow-add-counts
-overflow-add-counts c =
+pub overflow_add-counts : goal.overflow_add-counts
+overflow_add-counts c =
     let plan = c.args.plan.now in
     let tasks = c.tasks-task-items.result.now in
     let k = c.loop-k.k in
@@ -32,7 +32,7 @@ overflow-add-counts c =
     let few = read_count plan tasks c.tasks-task-items.ensures in
     omega (
       arith,
-      c.loop-k.invariant.1 t.place (bounds-counts-task-then-tasks-meet c),
+      c.loop-k.invariant.1 t.place (bounds-counts-task-then-tasks_meet c),
       load_limit (closed plan) (kept_of plan) (meets (closed plan).rows c.args.dates.now c.args.i) k c.args.bank t.place (omega (arith, few, c.loop-k-test.true)),
       read_accesses plan tasks c.tasks-task-items.ensures k t c.loop-k-test.true c.task-item.is c.args.bank,
       (kept_of plan).few,
@@ -49,9 +49,9 @@ loop-k-preserved c =
     let k = c.loop-k.k in
     let t = c.task-item.result in
     let same = c.tasks-task-items.ensures in
-    elim c.if-tasks-meet.branch [
-      | then-tasks-meet w ↦ subst (Counted rows met c.args.bank (k + 1)) (sym w.counts-is) (counted_met rows met c.args.bank k c.loop-k.counts (row_of t) c.loop-k.invariant w.if-tasks-meet.ensures (read_row plan tasks same k t c.loop-k-test.true c.task-item.is) (read_place plan tasks same k t c.loop-k-test.true c.task-item.is))
-      | else-tasks-meet w ↦ subst (Counted rows met c.args.bank (k + 1)) (sym w.counts-is) (counted_apart rows met c.args.bank k c.loop-k.counts c.loop-k.invariant w.if-tasks-meet.ensures)
+    elim c.if-tasks_meet.branch [
+      | then-tasks_meet w ↦ subst (Counted rows met c.args.bank (k + 1)) (sym w.counts-is) (counted_met rows met c.args.bank k c.loop-k.counts (row_of t) c.loop-k.invariant w.if-tasks_meet.ensures (read_row plan tasks same k t c.loop-k-test.true c.task-item.is) (read_place plan tasks same k t c.loop-k-test.true c.task-item.is))
+      | else-tasks_meet w ↦ subst (Counted rows met c.args.bank (k + 1)) (sym w.counts-is) (counted_apart rows met c.args.bank k c.loop-k.counts c.loop-k.invariant w.if-tasks_meet.ensures)
     ]
 
 pub returns : goal.returns

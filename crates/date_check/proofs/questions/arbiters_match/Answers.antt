@@ -12,8 +12,8 @@ returns-then-arbiters-head g c =
     let m = model g.A.Arbiter in
     let arbiters = c.args.arbiters.now in
     let head = (closed c.args.plan.now).head in
-    let places : c.head-of-head.result.places ≡ places_of head = ap places_of (sym c.head-of-head.ensures) in
-    let count : length arbiters ≡ banks_of head = c.if-arbiters-head.true ∙ ap banks_of (sym c.head-of-head.ensures) in
+    let places : c.head_of-head.result.places ≡ places_of head = ap places_of (sym c.head_of-head.ensures) in
+    let count : length arbiters ≡ banks_of head = c.if-arbiters-head.true ∙ ap banks_of (sym c.head_of-head.ensures) in
     record {
       answer = c.all_are_wide.ensures.answer ∙ ap (λ n. all_wide m n arbiters) places ∙ ap (λ b. b && all_wide m (places_of head) arbiters) (sym (eq-eqb (length arbiters) (banks_of head) count));
       facts = λ e. (count, subst (λ n. All (λ a. n ≤ m.width a) arbiters) places (c.all_are_wide.ensures.wide e));

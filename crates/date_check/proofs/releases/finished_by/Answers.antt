@@ -6,8 +6,8 @@ use Rattle.date_check.proofs.releases.finished_by.Goals as goal
 pub bounds-dates-k : goal.bounds-dates-k
 bounds-dates-k c = c.requires (get_or c.args.list.now c.loop-k.k-index 0) (member_at c.args.list.now c.loop-k.k-index c.loop-k-test.true)
 
-pub offset-bounds-dates-k : goal.offset-bounds-dates-k
-offset-bounds-dates-k c = omega (arith, bounds-dates-k c)
+pub offset_bounds-dates-k : goal.offset_bounds-dates-k
+offset_bounds-dates-k c = omega (arith, bounds-dates-k c)
 
 pub returns-then-date-finish : goal.returns-then-date-finish
 returns-then-date-finish c =

@@ -5,8 +5,8 @@ use Rattle.date_check.proofs.rows.task_at.Goals as goal
 pub bounds-tasks-i : goal.bounds-tasks-i
 bounds-tasks-i c = omega (arith, c.requires, read_count c.args.plan.now c.tasks.result.now c.tasks.ensures)
 
-pub offset-bounds-tasks-i : goal.offset-bounds-tasks-i
-offset-bounds-tasks-i c = omega (arith, c.requires, (kept_of c.args.plan.now).few)
+pub offset_bounds-tasks-i : goal.offset_bounds-tasks-i
+offset_bounds-tasks-i c = omega (arith, c.requires, (kept_of c.args.plan.now).few)
 
 pub returns : goal.returns
 returns c =

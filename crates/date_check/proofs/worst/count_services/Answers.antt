@@ -19,8 +19,8 @@ below_16 plan bank n l e = omega (arith, few_banks (closed plan).head (kept_of p
 wide_at : {S : Type 0} (m : Model S) (places bank : ℕ) (arbiters : List S) (a : S) → bank < length arbiters → a ≡ get_or arbiters bank a → All (λ x. places ≤ m.width x) arbiters → places ≤ m.width a
 wide_at m places bank arbiters a l e all = subst (λ x. places ≤ m.width x) (sym e) (All-get_or (λ x. places ≤ m.width x) arbiters bank a l all)
 
-pub bank-services-count-requires : goal.bank-services-count-requires
-bank-services-count-requires g c =
+pub bank_services-count-requires : goal.bank_services-count-requires
+bank_services-count-requires g c =
     let plan = c.args.plan.now in
     let bank = c.loop-bank.bank in
     let arbiters = c.args.arbiters.now in (
@@ -34,14 +34,14 @@ bank-services-count-requires g c =
       ),
     )
 
-pub overflow-add-count : goal.overflow-add-count
-overflow-add-count g c = omega (arith, c.loop-bank.invariant.1, c.bank-services-count.ensures.bound, below_16 c.args.plan.now c.loop-bank.bank (length c.args.arbiters.now) c.loop-bank-test.true c.requires.0.one_per_bank)
+pub overflow_add-count : goal.overflow_add-count
+overflow_add-count g c = omega (arith, c.loop-bank.invariant.1, c.bank_services-count.ensures.bound, below_16 c.args.plan.now c.loop-bank.bank (length c.args.arbiters.now) c.loop-bank-test.true c.requires.0.one_per_bank)
 
 pub loop-bank-preserved : goal.loop-bank-preserved
 loop-bank-preserved g c =
     let plan = c.args.plan.now in (
-      omega (arith, c.loop-bank.invariant.0, c.bank-services-count.ensures.value, services_more (closed plan) (kept_of plan) (meets (closed plan).rows c.args.dates.now c.args.i) (model g.A.Arbiter) g.met.A.Arbiter.lawful c.args.i c.loop-bank.bank c.args.arbiters.now c.index-arbiters-bank.result c.loop-bank-test.true c.index-arbiters-bank.is),
-      omega (arith, c.loop-bank.invariant.1, c.bank-services-count.ensures.bound),
+      omega (arith, c.loop-bank.invariant.0, c.bank_services-count.ensures.value, services_more (closed plan) (kept_of plan) (meets (closed plan).rows c.args.dates.now c.args.i) (model g.A.Arbiter) g.met.A.Arbiter.lawful c.args.i c.loop-bank.bank c.args.arbiters.now c.index-arbiters-bank.result c.loop-bank-test.true c.index-arbiters-bank.is),
+      omega (arith, c.loop-bank.invariant.1, c.bank_services-count.ensures.bound),
     )
 
 pub returns : goal.returns
