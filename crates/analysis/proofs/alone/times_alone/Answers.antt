@@ -21,8 +21,8 @@ loop-i-preserved g c =
     let y = system m p arbiters in
     let i = c.loop-i.i in
     let times = c.loop-i.times in
-    let new = c.work-time.result in
-    let alone_now = c.work-time.ensures.value ∙ work_same y (lawful m g.met.A.Arbiter.lawful p c.requires.kept arbiters c.requires.wide) i (task_below c.args.head c.args.tasks.now c.requires.kept i c.loop-i-test.true) (marked c.none-none.result.met) (λ k. false) (λ k l. c.none-none.ensures.nobody k) in (
+    let new = c.work_time.result in
+    let alone_now = c.work_time.ensures.value ∙ work_same y (lawful m g.met.A.Arbiter.lawful p c.requires.kept arbiters c.requires.wide) i (task_below c.args.head c.args.tasks.now c.requires.kept i c.loop-i-test.true) (marked c.none-none.result.met) (λ k. false) (λ k l. c.none-none.ensures.nobody k) in (
       length-set times i new ∙ c.loop-i.invariant.0,
       λ k l. elim (cases_eq k i) [
         | inl e ↦ ap (λ x. get_or (set times i new) x 0) e ∙ get_or-set_same times i new 0 (omega (arith, c.loop-i.invariant.0, few_tasks c.args.head c.args.tasks.now c.requires.kept)) ∙ alone_now ∙ ap (alone y) (sym e)

@@ -35,25 +35,25 @@ returns-then-dates-tasks g c =
     record {
       answer = (
         c.requires.0,
-        fit_read plan c.args.head tasks c.tasks-tasks.ensures c.requires.1 (model g.A.Arbiter) c.args.arbiters.now true c.if-not-arbiters-match.ensures,
+        fit_read plan c.args.head tasks c.tasks-tasks.ensures c.requires.1 (model g.A.Arbiter) c.args.arbiters.now true c.if-not-arbiters_match.ensures,
         omega (arith, read_count plan tasks c.tasks-tasks.ensures, c.if-dates-tasks.true),
         refl,
       );
       sound = tt;
     }
 
-pub find-dates-found-requires : goal.find-dates-found-requires
-find-dates-found-requires g c =
+pub find_dates-found-requires : goal.find_dates-found-requires
+find_dates-found-requires g c =
     let head = c.args.head in
     let tasks = c.tasks-tasks.result.now in
-    fitting (model g.A.Arbiter) g.met.A.Arbiter.lawful (planned head tasks) c.args.arbiters.now (kept_read c.args.plan.now head tasks c.tasks-tasks.ensures c.requires.1) (sym c.if-not-arbiters-match.ensures)
+    fitting (model g.A.Arbiter) g.met.A.Arbiter.lawful (planned head tasks) c.args.arbiters.now (kept_read c.args.plan.now head tasks c.tasks-tasks.ensures c.requires.1) (sym c.if-not-arbiters_match.ensures)
 
 pub grant-requires : goal.grant-requires
 grant-requires g c =
     let head = c.args.head in
     let tasks = c.tasks-tasks.result.now in
     let kept = kept_read c.args.plan.now head tasks c.tasks-tasks.ensures c.requires.1 in
-    (few_tasks head tasks kept, (c.if-dates-tasks.false, (short_period (planned head tasks).head kept.headed, c.find-dates-found.ensures.low)))
+    (few_tasks head tasks kept, (c.if-dates-tasks.false, (short_period (planned head tasks).head kept.headed, c.find_dates-found.ensures.low)))
 
 pub returns : goal.returns
 returns g c =
@@ -66,11 +66,11 @@ returns g c =
     let old = c.args.dates.now in
     let new = c.grant.new.dates in
     let r = c.grant.result in
-    let found = c.find-dates-found.result in
+    let found = c.find_dates-found.result in
     let same = c.tasks-tasks.ensures in
     let count = read_count plan tasks same in
-    let asked = fitting m laws (planned head tasks) arbiters (kept_read plan head tasks same c.requires.1) (sym c.if-not-arbiters-match.ensures) in
+    let asked = fitting m laws (planned head tasks) arbiters (kept_read plan head tasks same c.requires.1) (sym c.if-not-arbiters_match.ensures) in
     let decided = subst (λ n. Decided n head.period found old new r) (sym (length-map tasks row_of)) c.grant.ensures in
     let done = subst (λ (p : Plan). Answer m p arbiters old new r × IfOk r (λ _. Fits m p arbiters new × Sound m p arbiters new)) (plan_is plan head tasks same c.requires.1)
-    (concluded m laws (planned head tasks) arbiters asked (omega (arith, count, c.requires.0, length-map tasks row_of)) found c.find-dates-found.ensures.rounds old new (omega (arith, count, c.if-dates-tasks.false, length-map tasks row_of)) r decided) in
+    (concluded m laws (planned head tasks) arbiters asked (omega (arith, count, c.requires.0, length-map tasks row_of)) found c.find_dates-found.ensures.rounds old new (omega (arith, count, c.if-dates-tasks.false, length-map tasks row_of)) r decided) in
     record { answer = done.0; sound = done.1 }

@@ -10,15 +10,15 @@ headed : (plan : ClosedPlan) (o : Option Head) → 1 ≤ length (closed plan).ro
 headed plan None some e = absurd (no_head (closed plan) (kept_of plan) (sym e) some)
 headed plan (Some head) some e = (some, sym e)
 
-pub returns-then-is-empty : goal.returns-then-is-empty
-returns-then-is-empty c =
+pub returns-then-is_empty : goal.returns-then-is_empty
+returns-then-is_empty c =
     let plan = c.args.plan.now in
     let tasks = c.tasks.result.now in
-    omega (arith, read_count plan tasks c.tasks.ensures, eqb-true (length tasks) 0 (sym c.if-is-empty.ensures))
+    omega (arith, read_count plan tasks c.tasks.ensures, eqb-true (length tasks) 0 (sym c.if-is_empty.ensures))
 
 pub returns : goal.returns
 returns c =
     let plan = c.args.plan.now in
     let tasks = c.tasks.result.now in
-    let some : length tasks ≢ 0 = eqb-false (length tasks) 0 (sym c.if-is-empty.ensures) in
+    let some : length tasks ≢ 0 = eqb-false (length tasks) 0 (sym c.if-is_empty.ensures) in
     headed plan c.head.result (omega (arith, read_count plan tasks c.tasks.ensures)) c.head.ensures

@@ -5,6 +5,6 @@ use Rattle.analysis.proofs.dating.dated.Goals as goal
 pub returns-then-determined : goal.returns-then-determined
 returns-then-determined g c =
     record {
-      answer = c.rounds-end-ending.ensures.answer;
-      law = λ p arbiters kept wide. dated_plan (model g.A.Arbiter) g.met.A.Arbiter.lawful p kept c.dates-are-determined-determined.ensures.law c.rounds-end-ending.ensures.law arbiters wide;
+      answer = c.rounds_end-ending.ensures.answer;
+      law = λ p arbiters kept wide. dated_plan (model g.A.Arbiter) g.met.A.Arbiter.lawful p kept c.dates_are_determined-determined.ensures.law c.rounds_end-ending.ensures.law arbiters wide;
     }

@@ -10,8 +10,8 @@ loop-k-init c = record { not_before = omega arith; after_each = λ k w. absurd (
 pub bounds-finishes-k : goal.bounds-finishes-k
 bounds-finishes-k c = c.requires (get_or c.args.list.now c.loop-k.k-index 0) (member_at c.args.list.now c.loop-k.k-index c.loop-k-test.true)
 
-pub offset-bounds-finishes-k : goal.offset-bounds-finishes-k
-offset-bounds-finishes-k c = omega (arith, c.requires (get_or c.args.list.now c.loop-k.k-index 0) (member_at c.args.list.now c.loop-k.k-index c.loop-k-test.true))
+pub offset_bounds-finishes-k : goal.offset_bounds-finishes-k
+offset_bounds-finishes-k c = omega (arith, c.requires (get_or c.args.list.now c.loop-k.k-index 0) (member_at c.args.list.now c.loop-k.k-index c.loop-k-test.true))
 
 pub loop-k-preserved : goal.loop-k-preserved
 loop-k-preserved c =

@@ -12,20 +12,20 @@ loop-i-init c = (renewed_none (map row_of c.args.tasks.now) (column c.args.respo
 pub bounds-ends-task : goal.bounds-ends-task
 bounds-ends-task c = task_place c.requires.0.0 c.args.tasks.now c.requires.0.1 c.loop-i.i c.loop-i-test.true c.index-tasks-i.result c.index-tasks-i.is
 
-pub offset-bounds-ends-task : goal.offset-bounds-ends-task
-offset-bounds-ends-task c = omega (arith, task_place c.requires.0.0 c.args.tasks.now c.requires.0.1 c.loop-i.i c.loop-i-test.true c.index-tasks-i.result c.index-tasks-i.is)
+pub offset_bounds-ends-task : goal.offset_bounds-ends-task
+offset_bounds-ends-task c = omega (arith, task_place c.requires.0.0 c.args.tasks.now c.requires.0.1 c.loop-i.i c.loop-i-test.true c.index-tasks-i.result c.index-tasks-i.is)
 
 pub bounds-ends-task-in-loop-i : goal.bounds-ends-task-in-loop-i
 bounds-ends-task-in-loop-i c = task_place c.requires.0.0 c.args.tasks.now c.requires.0.1 c.loop-i.i c.loop-i-test.true c.index-tasks-i.result c.index-tasks-i.is
 
-pub offset-bounds-ends-task-in-loop-i : goal.offset-bounds-ends-task-in-loop-i
-offset-bounds-ends-task-in-loop-i c = omega (arith, task_place c.requires.0.0 c.args.tasks.now c.requires.0.1 c.loop-i.i c.loop-i-test.true c.index-tasks-i.result c.index-tasks-i.is)
+pub offset_bounds-ends-task-in-loop-i : goal.offset_bounds-ends-task-in-loop-i
+offset_bounds-ends-task-in-loop-i c = omega (arith, task_place c.requires.0.0 c.args.tasks.now c.requires.0.1 c.loop-i.i c.loop-i-test.true c.index-tasks-i.result c.index-tasks-i.is)
 
-pub latest-finish-release-requires : goal.latest-finish-release-requires
-latest-finish-release-requires c k h =
+pub latest_finish-release-requires : goal.latest_finish-release-requires
+latest_finish-release-requires c k h =
     omega (
       arith,
-      task_names c.requires.0.0 c.args.tasks.now c.requires.0.1 c.loop-i.i c.loop-i-test.true c.index-tasks-i.result c.index-tasks-i.is c.as-slice.result.now c.as-slice.ensures.value k h,
+      task_names c.requires.0.0 c.args.tasks.now c.requires.0.1 c.loop-i.i c.loop-i-test.true c.index-tasks-i.result c.index-tasks-i.is c.as_slice.result.now c.as_slice.ensures.value k h,
       few_tasks c.requires.0.0 c.args.tasks.now c.requires.0.1,
       c.loop-i.invariant.2,
     )
@@ -39,19 +39,19 @@ bounds-releases-i c = omega (arith, few_tasks c.requires.0.0 c.args.tasks.now c.
 pub bounds-finishes-i : goal.bounds-finishes-i
 bounds-finishes-i c = omega (arith, few_tasks c.requires.0.0 c.args.tasks.now c.requires.0.1)
 
-pub overflow-add-finish : goal.overflow-add-finish
-overflow-add-finish c =
+pub overflow_add-finish : goal.overflow_add-finish
+overflow_add-finish c =
     let head = c.requires.0.0 in
     let tasks = c.args.tasks.now in
     let kept = c.requires.0.1 in
     let i = c.loop-i.i in
     let l = c.loop-i-test.true in
     let t = c.index-tasks-i.result in
-    let release = c.latest-finish-release.result in
+    let release = c.latest_finish-release.result in
     omega (
       arith,
       release_low (planned head tasks) kept (column c.args.responses.now) i (task_below head tasks kept i l) (c.requires.1 i l) (λ k. get_or c.loop-i.releases k 0) (λ k. get_or c.loop-i.finishes k 0) c.loop-i.ends c.loop-i.invariant.0 (row_of t) (task_row head tasks kept i l t c.index-tasks-i.is) release
-          (latest_read c.max-ready.result _ c.as-slice.result.now (vec_items t.after) (λ k. get_or c.loop-i.finishes k 0) release c.max-ready.ensures c.as-slice.ensures.value c.latest-finish-release.ensures),
+          (latest_read c.max-ready.result _ c.as_slice.result.now (vec_items t.after) (λ k. get_or c.loop-i.finishes k 0) release c.max-ready.ensures c.as_slice.ensures.value c.latest_finish-release.ensures),
       c.requires.1 i l,
       few_tasks head tasks kept,
     )
@@ -64,13 +64,13 @@ loop-i-preserved c =
     let i = c.loop-i.i in
     let l = c.loop-i-test.true in
     let t = c.index-tasks-i.result in
-    let release = c.latest-finish-release.result in
+    let release = c.latest_finish-release.result in
     let res = column c.args.responses.now in
     let rel = c.loop-i.releases in
     let fin = c.loop-i.finishes in
     let inside : i < 256 = omega (arith, few_tasks head tasks kept) in (
       renewed_more (planned head tasks) kept res i (task_below head tasks kept i l) (c.requires.1 i l) (λ k. get_or rel k 0) (λ k. get_or fin k 0) c.loop-i.ends c.loop-i.invariant.0 (row_of t) (task_row head tasks kept i l t c.index-tasks-i.is) release
-          (latest_read c.max-ready.result _ c.as-slice.result.now (vec_items t.after) (λ k. get_or fin k 0) release c.max-ready.ensures c.as-slice.ensures.value c.latest-finish-release.ensures)
+          (latest_read c.max-ready.result _ c.as_slice.result.now (vec_items t.after) (λ k. get_or fin k 0) release c.max-ready.ensures c.as_slice.ensures.value c.latest_finish-release.ensures)
           (λ k. get_or (set rel i release) k 0) (λ k. get_or (set fin i (release + res i)) k 0)
           (get_or-set_same rel i release 0 (omega (arith, c.loop-i.invariant.1))) (λ k d. get_or-set_other rel i k release 0 d)
           (get_or-set_same fin i (release + res i) 0 (omega (arith, c.loop-i.invariant.2))) (λ k d. get_or-set_other fin i k (release + res i) 0 d),

@@ -24,8 +24,8 @@ loop-responses-init g c = (
   record { loaded = c.none-meetings.ensures.loads (map row_of c.args.tasks.now); right = λ k l e. absurd (both_ways (marked c.none-meetings.result.met k) (c.none-meetings.ensures.nobody k) e) },
 )
 
-pub meet-all-requires : goal.meet-all-requires
-meet-all-requires g c =
+pub meet_all-requires : goal.meet_all-requires
+meet_all-requires g c =
     let kept = c.requires.0.kept in (
       (c.args.head, kept),
       (
@@ -37,16 +37,16 @@ meet-all-requires g c =
       ),
     )
 
-pub work-time-worst-requires : goal.work-time-worst-requires
-work-time-worst-requires g c =
+pub work_time-worst-requires : goal.work_time-worst-requires
+work_time-worst-requires g c =
     let i = c.args.i in
     let res = column c.loop-responses.responses in (
       c.requires.0,
       (
         c.requires.1.0,
         (
-          c.meet-all.ensures.loaded,
-          c.meet-all.ensures.exact i (task_below c.args.head c.args.tasks.now c.requires.0.kept i c.requires.1.0) ∙ not_itself (map row_of c.args.tasks.now) (column c.args.releases.now) i res (res i),
+          c.meet_all.ensures.loaded,
+          c.meet_all.ensures.exact i (task_below c.args.head c.args.tasks.now c.requires.0.kept i c.requires.1.0) ∙ not_itself (map row_of c.args.tasks.now) (column c.args.releases.now) i res (res i),
         ),
       ),
     )
@@ -56,7 +56,7 @@ returns-then-worst-responses g c =
     let res = column c.loop-responses.responses in
     record {
       rising = c.loop-responses.invariant.0;
-      covered = omega (arith, worst_read (model g.A.Arbiter) g.met.A.Arbiter.lawful c.args.head c.args.tasks.now c.args.arbiters.now c.requires.0 (column c.args.releases.now) res c.args.i c.requires.1.0 c.meet-all.new.self c.meet-all.ensures c.work-time-worst.result c.work-time-worst.ensures.value, c.if-worst-responses.true);
+      covered = omega (arith, worst_read (model g.A.Arbiter) g.met.A.Arbiter.lawful c.args.head c.args.tasks.now c.args.arbiters.now c.requires.0 (column c.args.releases.now) res c.args.i c.requires.1.0 c.meet_all.new.self c.meet_all.ensures c.work_time-worst.result c.work_time-worst.ensures.value, c.if-worst-responses.true);
       others = c.loop-responses.invariant.1;
     }
 
@@ -71,19 +71,19 @@ loop-responses-preserved g c =
     let i = c.args.i in
     let xs = c.loop-responses.responses.rows in
     let res = column c.loop-responses.responses in
-    let n = c.work-time-worst.result in
+    let n = c.work_time-worst.result in
     let here : get_or (set xs i n) i 0 ≡ n = get_or-set_same xs i n 0 (omega (arith, few_tasks head tasks c.requires.0.kept, c.requires.1.0, c.loop-responses.responses.full)) in
     let others : (k : ℕ) → k ≢ i → get_or (set xs i n) k 0 ≡ res k = λ k d. get_or-set_other xs i k n 0 d in
-    let n_is : n ≡ worst (system m (planned head tasks) arbiters) rel res i (res i) = worst_read m laws head tasks arbiters c.requires.0 rel res i c.requires.1.0 c.meet-all.new.self c.meet-all.ensures n c.work-time-worst.ensures.value in (
-      rising_raised (system m (planned head tasks) arbiters) (lawful_system m laws head tasks arbiters c.requires.0) rel res (λ k. get_or (set xs i n) k 0) i (task_below head tasks c.requires.0.kept i c.requires.1.0) c.loop-responses.invariant.0 (here ∙ n_is) others (omega (arith, here, c.work-time-worst.ensures.low)),
+    let n_is : n ≡ worst (system m (planned head tasks) arbiters) rel res i (res i) = worst_read m laws head tasks arbiters c.requires.0 rel res i c.requires.1.0 c.meet_all.new.self c.meet_all.ensures n c.work_time-worst.ensures.value in (
+      rising_raised (system m (planned head tasks) arbiters) (lawful_system m laws head tasks arbiters c.requires.0) rel res (λ k. get_or (set xs i n) k 0) i (task_below head tasks c.requires.0.kept i c.requires.1.0) c.loop-responses.invariant.0 (here ∙ n_is) others (omega (arith, here, c.work_time-worst.ensures.low)),
       λ k d. others k d ∙ c.loop-responses.invariant.1 k d,
-      still_met (map row_of tasks) rel i res (λ k. get_or (set xs i n) k 0) c.meet-all.new.self c.meet-all.ensures others (omega (arith, here, c.if-worst-responses.false)),
+      still_met (map row_of tasks) rel i res (λ k. get_or (set xs i n) k 0) c.meet_all.new.self c.meet_all.ensures others (omega (arith, here, c.if-worst-responses.false)),
     )
 
 pub loop-responses-smaller : goal.loop-responses-smaller
 loop-responses-smaller g c =
     let i = c.args.i in
     let xs = c.loop-responses.responses.rows in
-    let n = c.work-time-worst.result in
+    let n = c.work_time-worst.result in
     let here : get_or (set xs i n) i 0 ≡ n = get_or-set_same xs i n 0 (omega (arith, few_tasks c.args.head c.args.tasks.now c.requires.0.kept, c.requires.1.0, c.loop-responses.responses.full)) in
-    omega (arith, here, c.if-worst-responses.false, c.work-time-worst.ensures.low)
+    omega (arith, here, c.if-worst-responses.false, c.work_time-worst.ensures.low)

@@ -26,8 +26,8 @@ loop-i-init g c =
       refl,
     )
 
-pub first-open-requires : goal.first-open-requires
-first-open-requires g c =
+pub first_open-requires : goal.first_open-requires
+first_open-requires g c =
     let few = few_tasks c.args.head c.args.tasks.now c.requires.0.kept in
     (few, omega (arith, few, c.loop-i.invariant.1))
 
@@ -67,6 +67,6 @@ returns g c =
     let tasks = c.args.tasks.now in
     let arbiters = c.args.arbiters.now in
     record {
-      smallest = in_order_all (system m (planned head tasks) arbiters) (lawful_system m laws head tasks arbiters c.requires.0) (column c.args.releases.now) (column c.loop-i.responses) c.loop-i.settled (λ k h. c.in-default.ensures k (omega (arith, length-map tasks row_of))) c.loop-i.invariant.0;
+      smallest = in_order_all (system m (planned head tasks) arbiters) (lawful_system m laws head tasks arbiters c.requires.0) (column c.args.releases.now) (column c.loop-i.responses) c.loop-i.settled (λ k h. c.in_default.ensures k (omega (arith, length-map tasks row_of))) c.loop-i.invariant.0;
       low = λ i h. c.loop-i.invariant.0.rising.low i (task_below head tasks c.requires.0.kept i h);
     }

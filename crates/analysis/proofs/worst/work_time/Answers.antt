@@ -51,11 +51,11 @@ module _ {S : Type 0} (m : Model S) (laws : Lawful m) (head : Head) (tasks : Lis
     omega (arith, bound_few a is),
   )
 
-pub bound-of-services-requires : goal.bound-of-services-requires
-bound-of-services-requires g c = accepted (model g.A.Arbiter) g.met.A.Arbiter.lawful c.args.head c.args.tasks.now c.args.arbiters.now c.requires.0 c.args.i c.requires.1.0 c.index-tasks-i.result c.index-tasks-i.is c.args.meetings.now c.requires.1.1.0 c.requires.1.1.1 c.loop-bank.bank c.loop-bank-test.true c.index-arbiters-bank.result c.index-arbiters-bank.is
+pub bound_of-services-requires : goal.bound_of-services-requires
+bound_of-services-requires g c = accepted (model g.A.Arbiter) g.met.A.Arbiter.lawful c.args.head c.args.tasks.now c.args.arbiters.now c.requires.0 c.args.i c.requires.1.0 c.index-tasks-i.result c.index-tasks-i.is c.args.meetings.now c.requires.1.1.0 c.requires.1.1.1 c.loop-bank.bank c.loop-bank-test.true c.index-arbiters-bank.result c.index-arbiters-bank.is
 
-pub overflow-add-services : goal.overflow-add-services
-overflow-add-services g c =
+pub overflow_add-services : goal.overflow_add-services
+overflow_add-services g c =
     let m = model g.A.Arbiter in
     let laws = g.met.A.Arbiter.lawful in
     let head = c.args.head in
@@ -69,7 +69,7 @@ overflow-add-services g c =
       arith,
       c.loop-bank.invariant.1,
       low m laws head tasks arbiters c.requires.0 c.args.i c.requires.1.0 t c.index-tasks-i.is meetings c.requires.1.1.0 c.requires.1.1.1 bank c.loop-bank-test.true,
-      bound_is m laws head tasks arbiters c.requires.0 c.args.i c.requires.1.0 t c.index-tasks-i.is meetings c.requires.1.1.0 c.requires.1.1.1 bank c.loop-bank-test.true a c.index-arbiters-bank.is c.bound-of-services.result c.bound-of-services.ensures,
+      bound_is m laws head tasks arbiters c.requires.0 c.args.i c.requires.1.0 t c.index-tasks-i.is meetings c.requires.1.1.0 c.requires.1.1.1 bank c.loop-bank-test.true a c.index-arbiters-bank.is c.bound_of-services.result c.bound_of-services.ensures,
       bound_few m laws head tasks arbiters c.requires.0 c.args.i c.requires.1.0 t c.index-tasks-i.is meetings c.requires.1.1.0 c.requires.1.1.1 bank c.loop-bank-test.true a c.index-arbiters-bank.is,
     )
 
@@ -86,8 +86,8 @@ loop-bank-preserved g c =
     let a = c.index-arbiters-bank.result in
     elim c.if-own-gt0.branch [
       | then-own-gt0 w ↦
-          counted m laws head tasks arbiters c.requires.0 c.args.i c.requires.1.0 t c.index-tasks-i.is meetings c.requires.1.1.0 c.requires.1.1.1 bank c.loop-bank-test.true c.loop-bank.services w.bound-of-services.result c.if-own-gt0.services a c.index-arbiters-bank.is
-          (bound_is m laws head tasks arbiters c.requires.0 c.args.i c.requires.1.0 t c.index-tasks-i.is meetings c.requires.1.1.0 c.requires.1.1.1 bank c.loop-bank-test.true a c.index-arbiters-bank.is w.bound-of-services.result w.bound-of-services.ensures)
+          counted m laws head tasks arbiters c.requires.0 c.args.i c.requires.1.0 t c.index-tasks-i.is meetings c.requires.1.1.0 c.requires.1.1.1 bank c.loop-bank-test.true c.loop-bank.services w.bound_of-services.result c.if-own-gt0.services a c.index-arbiters-bank.is
+          (bound_is m laws head tasks arbiters c.requires.0 c.args.i c.requires.1.0 t c.index-tasks-i.is meetings c.requires.1.1.0 c.requires.1.1.1 bank c.loop-bank-test.true a c.index-arbiters-bank.is w.bound_of-services.result w.bound_of-services.ensures)
           w.services-is c.loop-bank.invariant
       | else-own-gt0 w ↦
           counted m laws head tasks arbiters c.requires.0 c.args.i c.requires.1.0 t c.index-tasks-i.is meetings c.requires.1.1.0 c.requires.1.1.1 bank c.loop-bank-test.true c.loop-bank.services 0 c.if-own-gt0.services a c.index-arbiters-bank.is
@@ -118,11 +118,11 @@ module _ {S : Type 0} (m : Model S) (laws : Lawful m) (head : Head) (tasks : Lis
   work_low : t.cycles + head.latency * n < 2 ^ 35
   work_low = omega (arith, value, work_limit (planned head tasks) asked.kept met m laws arbiters i few_arbiters asked.wide below alone)
 
-pub overflow-mul-result : goal.overflow-mul-result
-overflow-mul-result g c = omega (arith, latency_low (model g.A.Arbiter) g.met.A.Arbiter.lawful c.args.head c.args.tasks.now c.args.arbiters.now c.requires.0 c.args.i c.requires.1.0 c.index-tasks-i.result c.index-tasks-i.is (marked c.args.meetings.now.met) c.requires.1.1.1 c.loop-bank.services c.loop-bank.bank c.loop-bank.invariant.0 c.loop-bank-test.false)
+pub overflow_mul-result : goal.overflow_mul-result
+overflow_mul-result g c = omega (arith, latency_low (model g.A.Arbiter) g.met.A.Arbiter.lawful c.args.head c.args.tasks.now c.args.arbiters.now c.requires.0 c.args.i c.requires.1.0 c.index-tasks-i.result c.index-tasks-i.is (marked c.args.meetings.now.met) c.requires.1.1.1 c.loop-bank.services c.loop-bank.bank c.loop-bank.invariant.0 c.loop-bank-test.false)
 
-pub overflow-add-result : goal.overflow-add-result
-overflow-add-result g c = omega (arith, work_low (model g.A.Arbiter) g.met.A.Arbiter.lawful c.args.head c.args.tasks.now c.args.arbiters.now c.requires.0 c.args.i c.requires.1.0 c.index-tasks-i.result c.index-tasks-i.is (marked c.args.meetings.now.met) c.requires.1.1.1 c.loop-bank.services c.loop-bank.bank c.loop-bank.invariant.0 c.loop-bank-test.false)
+pub overflow_add-result : goal.overflow_add-result
+overflow_add-result g c = omega (arith, work_low (model g.A.Arbiter) g.met.A.Arbiter.lawful c.args.head c.args.tasks.now c.args.arbiters.now c.requires.0 c.args.i c.requires.1.0 c.index-tasks-i.result c.index-tasks-i.is (marked c.args.meetings.now.met) c.requires.1.1.1 c.loop-bank.services c.loop-bank.bank c.loop-bank.invariant.0 c.loop-bank-test.false)
 
 pub returns : goal.returns
 returns g c =

@@ -11,14 +11,14 @@ bounds-self-k c = omega (arith, few_tasks c.requires.0.0 c.args.tasks.now c.requ
 pub bounds-self-task : goal.bounds-self-task
 bounds-self-task c = task_place c.requires.0.0 c.args.tasks.now c.requires.0.1 c.args.k c.requires.1.0 c.index-tasks-k.result c.index-tasks-k.is
 
-pub offset-bounds-self-task : goal.offset-bounds-self-task
-offset-bounds-self-task c = omega (arith, task_place c.requires.0.0 c.args.tasks.now c.requires.0.1 c.args.k c.requires.1.0 c.index-tasks-k.result c.index-tasks-k.is)
+pub offset_bounds-self-task : goal.offset_bounds-self-task
+offset_bounds-self-task c = omega (arith, task_place c.requires.0.0 c.args.tasks.now c.requires.0.1 c.args.k c.requires.1.0 c.index-tasks-k.result c.index-tasks-k.is)
 
 pub bounds-self-task-in-loop-bank : goal.bounds-self-task-in-loop-bank
 bounds-self-task-in-loop-bank c = task_place c.requires.0.0 c.args.tasks.now c.requires.0.1 c.args.k c.requires.1.0 c.index-tasks-k.result c.index-tasks-k.is
 
-pub overflow-add-self : goal.overflow-add-self
-overflow-add-self c =
+pub overflow_add-self : goal.overflow_add-self
+overflow_add-self c =
     let head = c.requires.0.0 in
     let tasks = c.args.tasks.now in
     let k = c.args.k in

@@ -6,13 +6,13 @@ use Rattle.analysis.specs.Workings.{Loaded, MetInPart, column, marked, meet}
 use Rattle.analysis.proofs.Raising.{met_added, met_kept}
 use Rattle.analysis.proofs.TaskRows.{few_tasks, task_below}
 use Rattle.analysis.proofs.tables.Meetings.meet_all.Goals as goal
-use Rattle.analysis.proofs.tables.Meetings.meet_all.Goals.{then-not-self-k+then-tasks-meet, else-not-self-k, else-not-self-k-via-then-not-self-k+else-tasks-meet, else-not-self-k-via-else-not-self-k}
+use Rattle.analysis.proofs.tables.Meetings.meet_all.Goals.{then-not-self-k+then-tasks_meet, else-not-self-k, else-not-self-k-via-then-not-self-k+else-tasks_meet, else-not-self-k-via-else-not-self-k}
 
 pub bounds-self-k : goal.bounds-self-k
 bounds-self-k c = omega (arith, few_tasks c.requires.0.0 c.args.tasks.now c.requires.0.1)
 
-pub tasks-meet-requires : goal.tasks-meet-requires
-tasks-meet-requires c = (few_tasks c.requires.0.0 c.args.tasks.now c.requires.0.1, (c.requires.1.0, (c.loop-k-test.true, c.requires.1.1.0)))
+pub tasks_meet-requires : goal.tasks_meet-requires
+tasks_meet-requires c = (few_tasks c.requires.0.0 c.args.tasks.now c.requires.0.1, (c.requires.1.0, (c.loop-k-test.true, c.requires.1.1.0)))
 
 pub loop-k-preserved : goal.loop-k-preserved
 loop-k-preserved c =
@@ -24,11 +24,11 @@ loop-k-preserved c =
     let t = c.loop-k.self in
     let inside : k < length t.met = omega (arith, few_tasks c.requires.0.0 c.args.tasks.now c.requires.0.1, t.marks) in
     elim c.if-not-self-k.branch [
-      | then-not-self-k+then-tasks-meet w ↦ met_added rows rel i res t k c.loop-k.invariant.0 c.loop-k.invariant.1 c.if-not-self-k.self inside (ap (λ (s : Meetings). s.met) w.self-is ∙ w.add.ensures.marks) (subst (Loaded rows) (sym w.self-is) w.add.ensures.loads) (sym w.if-tasks-meet.ensures)
+      | then-not-self-k+then-tasks_meet w ↦ met_added rows rel i res t k c.loop-k.invariant.0 c.loop-k.invariant.1 c.if-not-self-k.self inside (ap (λ (s : Meetings). s.met) w.self-is ∙ w.add.ensures.marks) (subst (Loaded rows) (sym w.self-is) w.add.ensures.loads) (sym w.if-tasks_meet.ensures)
       | else-not-self-k w ↦
           let same : marked t.met k ≡ meet rows rel res i (res i) k =
           elim w.else-not-self-k.branch [
-            | else-not-self-k-via-then-not-self-k+else-tasks-meet w' ↦ w'.if-not-self-k.true ∙ w'.if-tasks-meet.ensures
+            | else-not-self-k-via-then-not-self-k+else-tasks_meet w' ↦ w'.if-not-self-k.true ∙ w'.if-tasks_meet.ensures
             | else-not-self-k-via-else-not-self-k w' ↦ w'.if-not-self-k.false ∙ sym (c.loop-k.invariant.0.right k (task_below c.requires.0.0 c.args.tasks.now c.requires.0.1 k c.loop-k-test.true) w'.if-not-self-k.false)
           ] in
           subst (λ (s : Meetings). MetInPart rows rel res i s × ((j : ℕ) → j < k + 1 → marked s.met j ≡ meet rows rel res i (res i) j)) (sym w.self-is) (met_kept rows rel i res t k c.loop-k.invariant.0 c.loop-k.invariant.1 same)
