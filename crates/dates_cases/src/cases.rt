@@ -1,9 +1,9 @@
 // A file of cases. A case is a line X with its number, a line I with a length and a sheet of that length,
 // a line O with a length and the expected listing, and a line E. Numbers stand in 10 columns, as in a sheet.
 
-// The bytes that are left to read.
 use anyhow::anyhow;
 
+// The bytes that are left to read.
 #[derive(Drop)]
 pub(crate) struct Cases<'a> {
     bytes: &'a [u8],

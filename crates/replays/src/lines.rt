@@ -1,9 +1,9 @@
 // The lines of a file of cases: a letter, and numbers right-justified in 10 columns.
 ghost use Rattle.std.specs.Prelude.{◌-◌, ◌≤◌, length};
 
-// The next line begins at `at`, after as many as `count` says.
 use anyhow::anyhow;
 
+// The next line begins at `at`, after as many as `count` says.
 #[derive(Drop)]
 pub(crate) struct CaseLines<'a> {
     bytes: &'a [u8],
