@@ -1,17 +1,46 @@
-// The notes on dates: what the analysis hands out, and what the check says of it.
-use analysis::{Refusal as Undated, analyse};
+// The notes on dates: a table that gives each task time of its own, and what the check says of it.
 use arbiter::Arbiter;
+use bostan::pile;
 use date_check::{Dates, Refusal, check};
 use plan::closed::ClosedPlan;
+use rings::Ring;
+use sheet::lines::Make;
 use std::alloc::Global;
 
-// A table with a row for each task.
-fn blank(heap: Global, plan: &ClosedPlan) -> anyhow::Result<Vec<Dates>> {
+fn narrow(date: u64) -> u32 {
+    match u32::try_from(date) {
+        Ok(n) => n,
+        Err(_) => u32::MAX,
+    }
+}
+
+// One task after the other, so that no two of them meet. The followed row is released this much earlier and has this much less time.
+fn table(
+    heap: Global,
+    plan: &ClosedPlan,
+    latency: u64,
+    followed: usize,
+    earlier: u32,
+    shorter: u32,
+) -> anyhow::Result<Vec<Dates>> {
     let mut dates = Vec::new(heap);
-    for _ in 0..plan.tasks().len() {
+    let mut free = 0u64;
+    for (row, task) in plan.tasks().iter().enumerate() {
+        let mut accesses = 0u64;
+        for count in task.demands {
+            accesses = accesses.saturating_add(count);
+        }
+        let start = free.max(task.earliest);
+        let time = latency.saturating_mul(accesses).saturating_add(task.cycles);
+        free = start.saturating_add(time);
+        let (less, cut) = if row == followed {
+            (earlier, shorter)
+        } else {
+            (0, 0)
+        };
         dates.push(Dates {
-            release: 0,
-            response: 0,
+            release: narrow(start).saturating_sub(less),
+            response: narrow(time).saturating_sub(cut),
         })?;
     }
     Ok(dates)
@@ -49,70 +78,60 @@ fn verdict<A: Arbiter>(
     Ok(())
 }
 
-// The dates as they are, and with the followed row one cycle earlier or shorter.
 fn verdicts<A: Arbiter>(
     rt: &HostRuntime,
     plan: &ClosedPlan,
     arbiters: &[A],
-    dates: &mut [Dates],
+    latency: u64,
     row: usize,
 ) -> anyhow::Result<()> {
-    verdict(rt, plan, arbiters, "As they are", dates)?;
-    let Some(kept) = dates.get(row).copied() else {
-        return Ok(());
-    };
-    dates[row].release = kept.release.saturating_sub(1);
-    verdict(
-        rt,
-        plan,
-        arbiters,
-        "With this task released one cycle earlier",
-        dates,
-    )?;
-    dates[row].release = kept.release;
-    dates[row].response = kept.response.saturating_sub(1);
-    verdict(rt, plan, arbiters, "With one cycle less for it", dates)?;
-    dates[row] = kept;
-    Ok(())
-}
-
-fn undated(rt: &HostRuntime, refusal: Undated) -> anyhow::Result<()> {
-    match refusal {
-        Undated::Late { row, finish } => println!(rt;
-            "  The plan is late: row {row} finishes at {finish}, after the period (analyse)."
-        )?,
-        _ => println!(rt; "  The analysis is refused with {}.", refusal.number())?,
-    }
-    Ok(())
-}
-
-// The dates of the plan, if it has any within its period.
-pub(crate) fn dates<A: Arbiter>(
-    rt: &HostRuntime,
-    plan: &ClosedPlan,
-    arbiters: &[A],
-    row: usize,
-) -> anyhow::Result<Option<Vec<Dates>>> {
-    println!(rt; "\nThe analysis of all tasks together:")?;
-    let mut dates = blank(rt.alloc(), plan)?;
-    let rounds = match analyse(plan, arbiters, dates.as_mut_slice()) {
-        Ok(rounds) => rounds,
-        Err(refusal) => {
-            undated(rt, refusal)?;
-            return Ok(None);
-        }
-    };
-    println!(rt;
-        "  In {rounds} rounds it found the one table of consistent dates there is, and all end within the period (analyse)."
-    )?;
-    if let Some(d) = dates.as_slice().get(row) {
+    let heap = rt.alloc();
+    let sound = table(heap, plan, latency, row, 0, 0)?;
+    if let Some(d) = sound.as_slice().get(row) {
         println!(rt;
-            "  The task is released at {}, has {} cycles, and finishes by {}.",
+            "  It is released at {}, has {} cycles, and finishes by {}.",
             d.release,
             d.response,
             d.finish()
         )?;
     }
-    verdicts(rt, plan, arbiters, dates.as_mut_slice(), row)?;
-    Ok(Some(dates))
+    verdict(rt, plan, arbiters, "As it is", sound.as_slice())?;
+    let early = table(heap, plan, latency, row, 1, 0)?;
+    verdict(
+        rt,
+        plan,
+        arbiters,
+        "Released one cycle earlier",
+        early.as_slice(),
+    )?;
+    let short = table(heap, plan, latency, row, 0, 1)?;
+    verdict(rt, plan, arbiters, "With one cycle less", short.as_slice())
+}
+
+pub(crate) fn dates(
+    rt: &HostRuntime,
+    plan: &ClosedPlan,
+    make: Make,
+    row: usize,
+) -> anyhow::Result<()> {
+    let Some(head) = plan.head() else {
+        return Ok(());
+    };
+    println!(rt; "\nDated one after the other, no two tasks meet:")?;
+    match make {
+        Make::Bostan => {
+            let mut piles = Vec::new(rt.alloc());
+            for _ in 0..head.banks {
+                piles.push(pile())?;
+            }
+            verdicts(rt, plan, piles.as_slice(), head.latency, row)
+        }
+        Make::Ring => {
+            let mut rings = Vec::new(rt.alloc());
+            for _ in 0..head.banks {
+                rings.push(Ring::new(head.places))?;
+            }
+            verdicts(rt, plan, rings.as_slice(), head.latency, row)
+        }
+    }
 }

@@ -3,44 +3,12 @@
 
 mod bounds;
 mod dating;
-mod making;
 mod notes;
 mod reading;
-mod running;
 
 use anyhow::anyhow;
-use arbiter::Arbiter;
 use loader::loading::load;
-use plan::closed::ClosedPlan;
 use plan::open::OpenPlan;
-use plan::rows::Head;
-use sheet::lines::Make;
-
-// Dates all tasks, and runs a period under these dates.
-fn date_and_run<A: Arbiter + Drop>(
-    rt: &HostRuntime,
-    plan: &ClosedPlan,
-    arbiters: Vec<A>,
-    row: usize,
-) -> anyhow::Result<()> {
-    match dating::dates(rt, plan, arbiters.as_slice(), row)? {
-        Some(dates) => running::period(rt, plan, dates.as_slice(), arbiters, row),
-        None => Ok(()),
-    }
-}
-
-fn date_and_run_by_make(
-    rt: &HostRuntime,
-    plan: &ClosedPlan,
-    make: Make,
-    head: Head,
-    row: usize,
-) -> anyhow::Result<()> {
-    match make {
-        Make::Ring => date_and_run(rt, plan, making::rings(rt.alloc(), head)?, row),
-        Make::Bostan => date_and_run(rt, plan, making::piles(rt.alloc(), head)?, row),
-    }
-}
 
 fn run(rt: &HostRuntime) -> anyhow::Result<()> {
     let heap = rt.alloc();
@@ -62,9 +30,9 @@ fn run(rt: &HostRuntime) -> anyhow::Result<()> {
     notes::row_accepted(rt, &plan, &loaded, row)?;
     notes::waits(rt, &plan, &loaded, row)?;
     notes::demands(rt, &plan, row)?;
-    if let (Some(make), Some(head)) = (loaded.make, plan.head()) {
+    if let Some(make) = loaded.make {
         bounds::bounds(rt, &plan, make, row)?;
-        date_and_run_by_make(rt, &plan, make, head, row)?;
+        dating::dates(rt, &plan, make, row)?;
     }
     notes::refused_line(rt, bytes.as_slice())
 }

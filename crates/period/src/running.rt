@@ -1,7 +1,7 @@
 // The notes on a run: one whole period, in which every place asks for its accesses as soon as it can.
 use arbiter::Arbiter;
-use date_check::Dates;
 use cluster::Stage;
+use date_check::Dates;
 use plan::closed::ClosedPlan;
 use plan::rows::Head;
 use run::Run;
