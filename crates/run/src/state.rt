@@ -5,9 +5,8 @@ ghost use Rattle.plan.specs.Rules.{banks_of};
 ghost use Rattle.date_check.specs.Sound.{period_of};
 ghost use Rattle.cluster.specs.Cycles.{is_some};
 
-use arbiter::Arbiter;
-use date_check::Dates;
 use cluster::{Breach, Place, Service, SetUpRefusal, Stage};
+use date_check::Dates;
 use plan::closed::ClosedPlan;
 
 mod asking;
@@ -24,7 +23,7 @@ mod using;
 
 // There is room for the largest plan; only the plan's rows, places and banks are used. Without a breach the time is below the period.
 #[derive(Drop)]
-pub struct Run<'r, A: Arbiter> {
+pub struct Run<'r, A> {
     plan: &'r ClosedPlan,
     dates: &'r [Dates],
     time: u64,
@@ -44,7 +43,7 @@ pub struct Run<'r, A: Arbiter> {
 
 // A set-up that was refused, and the arbiters as they were.
 #[derive(Drop)]
-pub struct Refused<A: Arbiter> {
+pub struct Refused<A> {
     pub refusal: SetUpRefusal,
     pub arbiters: Vec<A>,
 }

@@ -8,8 +8,8 @@ ghost use Rattle.run.specs.Views.{SetsUp};
 
 use crate::state::{Refused, Run};
 use arbiter::Arbiter;
-use date_check::Dates;
 use cluster::{Place, Stage};
+use date_check::Dates;
 use plan::closed::ClosedPlan;
 use setup::refusal_of;
 

@@ -12,7 +12,7 @@ loop-i-init c = record {
 
 pub loop-i-preserved : goal.loop-i-preserved
 loop-i-preserved c =
-    subst (λ rows. RowsOf (take (c.loop-i.i + 1) c.args.dates.now) (map (λ n. n.now) (take (c.loop-i.i + 1) c.args.names.now)) rows) (sym c.in-ok-push.ensures.items)
+    subst (λ rows. RowsOf (take (c.loop-i.i + 1) c.args.dates.now) (map (λ n. n.now) (take (c.loop-i.i + 1) c.args.names.now)) rows) (sym c.in_ok-push.ensures.items)
     (row_more c.args.dates.now c.args.names.now c.loop-i.i (vec_items c.loop-i.rows) c.loop-i.invariant _ _ (omega arith) (omega (arith, c.requires)))
 
 pub returns : goal.returns

@@ -6,8 +6,16 @@ use Rattle.date_check.proofs.Reading.{kept_of}
 use Rattle.run.proofs.Limits.{head_limits}
 use Rattle.run.proofs.state.Run.begin.Goals as goal
 
-pub invariant-of-run : goal.invariant-of-run
-invariant-of-run g c =
+pub invariant_of-run : goal.invariant_of-run
+invariant_of-run g c =
     let plan = c.args.plan.now in
     let some = (head_limits (closed plan) (kept_of plan) c.requires.some).2 in
-    (c.requires.some, (c.requires.row_per_task, (refl, (refl, (refl, (c.requires.one_per_bank, (lt-ltb 0 (period_of (closed plan).head) some, tt)))))))
+    record {
+      some = c.requires.some;
+      tabled = c.requires.row_per_task;
+      staged = refl;
+      placed = refl;
+      served = refl;
+      arbitrated = c.requires.one_per_bank;
+      timed = lt-ltb 0 (period_of (closed plan).head) some;
+    }

@@ -7,7 +7,7 @@ use Rattle.run.proofs.state.Run.head.Goals as goal
 pub returns : goal.returns
 returns g c =
     let run = c.args.self.now in
-    let head = c.head-of.ensures in
+    let head = c.head_of.ensures in
     let limits = head_limits (planned run) (kept_of run.plan.now) run.some in
     record {
       places = head.places;

@@ -10,8 +10,8 @@ use Rattle.run.proofs.state.Run.next_time.Goals as goal
 within : (breach : Option Breach) (time period : ℕ) → breach ≡ None → (is_some breach || ltb time period) ≡ true → time < period
 within breach time period e on = ltb-true time period (ap (λ o. is_some o || ltb time period) (sym e) ∙ on)
 
-pub overflow-add-result : goal.overflow-add-result
-overflow-add-result g c =
+pub overflow_add-result : goal.overflow_add-result
+overflow_add-result g c =
     let run = c.args.self.now in
     omega (arith, within run.breach run.time (period_of (planned run).head) c.requires run.timed, short_period (planned run).head (kept_of run.plan.now).headed)
 

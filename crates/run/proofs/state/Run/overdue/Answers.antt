@@ -5,12 +5,12 @@ use Rattle.run.specs.Views.{planned, state, table}
 use Rattle.setup.proofs.Lowest.{lowest_found, lowest_more}
 use Rattle.run.proofs.state.Run.overdue.Goals as goal
 
-pub returns-then-is-overdue : goal.returns-then-is-overdue
-returns-then-is-overdue g c =
+pub returns-then-is_overdue : goal.returns-then-is_overdue
+returns-then-is_overdue g c =
     let run = c.args.self.now in
-    lowest_found (is_overdue (table run) (with_time (state run) c.args.time)) c.loop-row.row c.is-overdue.result c.loop-row.invariant c.is-overdue.ensures (length (planned run).rows) (omega (arith, c.rows-row-end.ensures.count)) c.if-is-overdue.true
+    lowest_found (is_overdue (table run) (with_time (state run) c.args.time)) c.loop-row.row c.is_overdue.result c.loop-row.invariant c.is_overdue.ensures (length (planned run).rows) (omega (arith, c.rows-row-end.ensures.count)) c.if-is_overdue.true
 
 pub loop-row-preserved : goal.loop-row-preserved
 loop-row-preserved g c =
     let run = c.args.self.now in
-    lowest_more (is_overdue (table run) (with_time (state run) c.args.time)) c.loop-row.row c.is-overdue.result c.loop-row.invariant c.is-overdue.ensures c.if-is-overdue.false
+    lowest_more (is_overdue (table run) (with_time (state run) c.args.time)) c.loop-row.row c.is_overdue.result c.loop-row.invariant c.is_overdue.ensures c.if-is_overdue.false

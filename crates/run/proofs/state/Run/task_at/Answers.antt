@@ -5,8 +5,8 @@ use Rattle.run.proofs.state.Run.task_at.Goals as goal
 pub bounds-tasks-row : goal.bounds-tasks-row
 bounds-tasks-row g c = omega (arith, c.requires, read_count c.args.self.now.plan.now c.tasks.result.now c.tasks.ensures)
 
-pub offset-bounds-tasks-row : goal.offset-bounds-tasks-row
-offset-bounds-tasks-row g c = omega (arith, c.requires, (kept_of c.args.self.now.plan.now).few)
+pub offset_bounds-tasks-row : goal.offset_bounds-tasks-row
+offset_bounds-tasks-row g c = omega (arith, c.requires, (kept_of c.args.self.now.plan.now).few)
 
 pub returns : goal.returns
 returns g c =

@@ -6,7 +6,7 @@ use Rattle.run.proofs.Steps.{mapped_all, services_more}
 use Rattle.run.proofs.state.Run.use_services.Goals as goal
 
 pub loop-bank-preserved : goal.loop-bank-preserved
-loop-bank-preserved g c = services_more service_used c.loop-bank.bank c.args.self.now c.loop-bank.self c.use-service.new.self (omega (arith, c.args.self.now.served)) c.loop-bank.invariant c.use-service.ensures
+loop-bank-preserved g c = services_more service_used c.loop-bank.bank c.args.self.now c.loop-bank.self c.use_service.new.self (omega (arith, c.args.self.now.served)) c.loop-bank.invariant c.use_service.ensures
 
 pub returns : goal.returns
 returns g c =
