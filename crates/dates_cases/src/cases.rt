@@ -54,7 +54,7 @@ impl<'a> Cases<'a> {
         let sheet = self.take(length)?;
         let length = self.number(b'O')?;
         let expected = self.take(length)?;
-        if self.take(2)? != b"E\n" {
+        if self.take(2)? != b"E\n".as_slice() {
             return Err(anyhow!("a case of the file of cases does not end"));
         }
         Ok(Some(Case {

@@ -1,5 +1,6 @@
 // The lines of a file of cases: a letter, and numbers right-justified in 10 columns.
 ghost use Rattle.std.specs.Prelude.{◌-◌, ◌≤◌, length};
+ghost use Rattle.std.specs.Iterator.{at_most};
 
 use anyhow::anyhow;
 
@@ -33,9 +34,7 @@ impl<'a> CaseLines<'a> {
 impl<'a> Iterator for CaseLines<'a> {
     type Item = Line<'a>;
 
-    ghost ends = { λ _. Unit {0} };
-
-    ghost remaining = { λ s. length s.bytes.now - s.at };
+    ghost remaining = { λ s. at_most (length s.bytes.now - s.at) };
 
     fn next(&mut self) -> Option<Line<'a>> {
         if self.at == self.bytes.len() {
@@ -54,7 +53,7 @@ impl<'a> Iterator for CaseLines<'a> {
 
 // The bytes of the first line, its line feed among them.
 fn line_length(bytes: &[u8]) -> usize
-    ensures { (result ≤ length bytes.now) × ((1 ≤ length bytes.now → 1 ≤ result)) }
+    ensures { (result ≤ length bytes.now) × (1 ≤ length bytes.now → 1 ≤ result) }
 {
     for (i, byte) in bytes.iter().enumerate() {
         if *byte == b'\n' {

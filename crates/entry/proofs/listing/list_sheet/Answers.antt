@@ -6,4 +6,4 @@ use Rattle.entry.proofs.listing.list_sheet.Goals as goal
 pub returns-in-Ok : goal.returns-in-Ok
 returns-in-Ok c =
     put (vec_items c.in-Ok.text) c.in-Ok.ensures
-    (subst (λ text. Put text c.args.out.now c.put.result c.put.new.out) c.as-slice.ensures.value c.put.ensures)
+    (subst (λ text. Put text c.args.out.now c.put.result c.put.new.out) c.as_slice.ensures.value c.put.ensures)
