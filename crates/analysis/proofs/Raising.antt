@@ -5,7 +5,7 @@ use Rattle.std.proofs.lemmas.List.{get_or-set_other, get_or-set_same}
 use Rattle.std.proofs.lemmas.Bool.{and_from, and_parts, both_ways, cases_eq, eq-eqb, lt-ltb, ltb-true, not_from_false, not_from_true, true≢false}
 use Rattle.plan.specs.Rows.{Row, row}
 use Rattle.consistency.specs.System.{System, Lawful}
-use Rattle.consistency.specs.Dates.{Same, SmallestResponses, Table, alone, finish, meets, worst}
+use Rattle.consistency.specs.Dates.{Same, SmallestResponses, Table, alone, finish, worst}
 use Rattle.consistency.proofs.Counting.{count, count_more}
 use Rattle.consistency.proofs.Responses.{alone_below, raised_below, smallest_from_below}
 use Rattle.consistency.proofs.Worst.{worst_earlier, worst_positive}

@@ -1,6 +1,6 @@
 -- What the rows of a sheet leave in a plan: as many tasks as names, and no head without a make.
 -- Assumes nothing.
-use Rattle.std.proofs.Common.{◌≡◌, ℕ, ◌+◌, ◌-◌, ◌≤◌, List, [], ◌∷◌, ◌++◌, length, Some, None, Ok, Err, fold, Option, Result, sym, refl, ap, ◌∙◌, arith, length-append, length-set}
+use Rattle.std.proofs.Common.{◌≡◌, ℕ, ◌+◌, ◌-◌, List, [], ◌∷◌, length, Some, None, Ok, Err, fold, Option, Result, sym, refl, ap, ◌∙◌, arith, length-append, length-set}
 use Rattle.plan.specs.Rows.{Plan, new_row}
 use Rattle.plan.specs.Rules.{newest, with_accesses, with_named}
 use Rattle.plan.specs.declared.rows.Refusal.{Refusal}

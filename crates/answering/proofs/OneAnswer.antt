@@ -1,6 +1,6 @@
 -- A plan with new arbiters of one make has one listing.
 -- Assumes nothing.
-use Rattle.std.proofs.Common.{◌≡◌, ℕ, ◌+◌, ◌<◌, ◌≤◌, true, false, List, [], ◌∷◌, ◌++◌, map, length, get_or, Ok, Err, codes, Result, sym, refl, ap, ◌∙◌, subst, inl, inr, arith}
+use Rattle.std.proofs.Common.{◌≡◌, ℕ, ◌+◌, ◌<◌, ◌≤◌, false, List, [], ◌∷◌, ◌++◌, map, length, Ok, Err, codes, Result, sym, refl, ap, ◌∙◌, subst, inl, inr, arith}
 use Rattle.std.proofs.lemmas.List.{ext_get_or, get_or-map, length-map}
 use Rattle.std.proofs.lemmas.Bool.{cases_lt}
 use Rattle.std.specs.List.{AllByRecursion as All}
@@ -10,17 +10,17 @@ use Rattle.arbiter.specs.Meaning.{Model}
 use Rattle.sheet.specs.Columns.{column, justified}
 use Rattle.date_check.specs.declared.dates.Dates.{Dates}
 use Rattle.date_check.specs.Keeping.{AllKeep}
-use Rattle.date_check.specs.Sound.{Fits, dated, period_of}
+use Rattle.date_check.specs.Sound.{Fits, dated}
 use Rattle.date_check.specs.Verdict.{arbiters_fit}
 use Rattle.consistency.specs.Dates.{Consistent, Rounds, Same, Table, finish}
 use Rattle.consistency.specs.System.{System}
 use Rattle.analysis.specs.Answers as analysis
-use Rattle.analysis.specs.Plans.{Dated, PlansAreDated, releases, responses, system}
+use Rattle.analysis.specs.Plans.{PlansAreDated, releases, responses, system}
 use Rattle.analysis.specs.declared.refusal.Refusal.{Refusal}
 use Rattle.analysis.specs.declared.refusal.Refusal.TheVariants.{NoTask, Arbiters, Table as ShortTable, Late}
 use Rattle.listing.specs.Listing.{granted, late, row_line, row_lines}
 use Rattle.listing.specs.declared.answer.Row.{Row}
-use Rattle.answering.specs.Listings.{ListsAnswer, ListsGranted, ListsPlan, RowsOf}
+use Rattle.answering.specs.Listings.{ListsAnswer, ListsGranted, ListsPlan}
 use Rattle.answering.proofs.OneSystem.{fit_keep, system_same, they_fit}
 
 -- The line of a task, by its dates and its name.

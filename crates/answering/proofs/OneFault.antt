@@ -1,14 +1,13 @@
 -- A sheet has one first fault, or none.
 -- Assumes nothing.
-use Rattle.std.proofs.Common.{◌≡◌, ℕ, zero, suc, ◌+◌, ◌<◌, ◌≤◌, List, [], ◌∷◌, length, take, Some, None, Ok, Err, Result, sym, ap, ◌∙◌, inl, inr, arith}
-use Rattle.std.proofs.lemmas.List.{get_or-take, length-take-le, take_all, take-take}
+use Rattle.std.proofs.Common.{◌≡◌, ℕ, zero, suc, ◌+◌, ◌<◌, ◌≤◌, List, [], ◌∷◌, length, take, None, Ok, Err, Result, sym, ap, ◌∙◌, inl, inr, arith}
+use Rattle.std.proofs.lemmas.List.{get_or-take, length-take-le, take-take}
 use Rattle.std.proofs.lemmas.Bool.{cases_lt}
 use Rattle.plan.specs.Rows.{Plan}
 use Rattle.plan.specs.declared.rows.Refusal.{Refusal}
 use Rattle.sheet.specs.Lines.{then}
 use Rattle.sheet.specs.Reading.{Reading}
 use Rattle.sheet.specs.Rows.{Row, dependency}
-use Rattle.sheet.specs.declared.faults.Fault.{Fault}
 use Rattle.loader.specs.declared.faults.LoadFault.{LoadFault}
 use Rattle.loader.specs.Faults.{number_of, read_fault, row_fault}
 use Rattle.loader.specs.Loading.{Stopped, Stops, refused, row_at, starved, unread}

@@ -1,6 +1,6 @@
 -- A sheet has one listing.
 -- Assumes nothing.
-use Rattle.std.proofs.Common.{◌≡◌, ℕ, ◌<◌, ◌≤◌, List, [], length, Some, None, Ok, Err, Option, Result, sym, ap, ◌∙◌, subst, inl, inr, arith}
+use Rattle.std.proofs.Common.{◌≡◌, ℕ, List, [], length, Some, None, Ok, Option, Result, sym, ap, ◌∙◌, subst, inl, inr}
 use Rattle.std.proofs.lemmas.Bool.{cases_lt}
 use Rattle.plan.specs.Rows.{Plan}
 use Rattle.plan.specs.Rules.{Kept, places_of}
@@ -15,7 +15,7 @@ use Rattle.rings.specs.Rings.{NewRing, ring}
 use Rattle.bostan.specs.Piles.{NewPile, bostan}
 use Rattle.analysis.specs.Plans.{PlansAreDated}
 use Rattle.listing.specs.Listing.{fault}
-use Rattle.answering.specs.Listings.{Answers, ListsByMake, ListsLines, ListsMade, Makes, OneListing, faulty, planned}
+use Rattle.answering.specs.Listings.{ListsByMake, ListsLines, ListsMade, OneListing, faulty, planned}
 use Rattle.answering.proofs.KeptPlans.{sheet_kept}
 use Rattle.answering.proofs.OneAnswer.{plans_same}
 use Rattle.answering.proofs.OneFault.{faults_same, not_both}

@@ -16,7 +16,6 @@ use Rattle.date_check.specs.declared.dates.Dates.{Dates}
 use Rattle.date_check.specs.Keeping.{AllKeep}
 use Rattle.date_check.specs.Sound.{Fits, latency_of, loads, services}
 use Rattle.date_check.specs.Verdict.{all_wide, arbiters_fit}
-use Rattle.consistency.specs.System.{System}
 use Rattle.analysis.specs.Plans.{system}
 
 pub rings_keep : (n : ℕ) (a b : Ring) → NewRing n a → NewRing n b → Keeps ring a b

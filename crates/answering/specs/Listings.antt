@@ -12,8 +12,7 @@ use Rattle.loader.specs.Rows.{all_taken, make_in, names_in}
 use Rattle.loader.specs.declared.faults.LoadFault.{LoadFault}
 use Rattle.arbiter.specs.Meaning.{Model}
 use Rattle.rings.specs.Rings.{NewRing, ring}
-use Rattle.rings.specs.declared.ring.Ring.{Ring}
-use Rattle.bostan.specs.Piles.{NewPile, Pile, bostan}
+use Rattle.bostan.specs.Piles.{NewPile, bostan}
 use Rattle.date_check.specs.declared.dates.Dates.{Dates}
 use Rattle.analysis.specs.Answers as analysis
 use Rattle.analysis.specs.declared.refusal.Refusal.{Refusal}

@@ -1,5 +1,5 @@
 -- What set-up, asks and cycles answer, and what they leave.
-use Rattle.std.specs.Prelude.{◌≡◌, ℕ, zero, suc, Bool, true, false, cond, not, ◌&&◌, ◌⊎◌, List, [], ◌∷◌, length, Some, None, Ok, Err, Option, Result, nat_le, nat_lt, slice_set}
+use Rattle.std.specs.Prelude.{◌≡◌, ℕ, zero, suc, Bool, true, cond, not, ◌&&◌, List, [], ◌∷◌, length, Some, None, Ok, Err, Option, Result, nat_le, nat_lt, slice_set}
 use Rattle.std.specs.List.{slice_get}
 use Rattle.plan.specs.Rows.{Plan}
 use Rattle.plan.specs.Rules.{banks_of, between, places_of}

@@ -1,14 +1,13 @@
 -- What releases and cycles do.
 use Rattle.std.specs.Prelude.{◌≡◌, ℕ, zero, suc, ◌+◌, ◌-◌, Bool, true, false, cond, not, ◌&&◌, ◌||◌, List, map, length, replicate, Some, None, Option, ◌==◌, slice_set}
 use Rattle.std.specs.List.{slice_get}
-use Rattle.plan.specs.Rows.{Plan, Row, row}
+use Rattle.plan.specs.Rows.{Plan, row}
 use Rattle.plan.specs.Rules.{banks_of, places_of}
 use Rattle.plan.specs.Waits.{waits_for}
 use Rattle.arbiter.specs.Answers.{AfterPick}
 use Rattle.arbiter.specs.Meaning.{Model}
 use Rattle.date_check.specs.declared.dates.Dates.{Dates}
-use Rattle.date_check.specs.Sound.{dated, finish, latency_of, period_of}
-use Rattle.cluster.specs.declared.breach.Breach.{Breach}
+use Rattle.date_check.specs.Sound.{dated, finish, period_of}
 use Rattle.cluster.specs.declared.breach.Breach.TheVariants.{Overdue, Unready}
 use Rattle.cluster.specs.declared.place.Job.{Job}
 use Rattle.cluster.specs.declared.place.Place.{Place}

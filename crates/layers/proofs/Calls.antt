@@ -8,7 +8,7 @@ use Rattle.arbiter.specs.Meaning.{Model}
 use Rattle.arbiter.specs.Laws.{Steps}
 use Rattle.arbiter.proofs.Someone.{someone_at, no_one, the_one, nobody_at}
 use Rattle.layers.specs.declared.pair.Pair.{Pair}
-use Rattle.layers.specs.Pairs.{fits, pair_width, pair_waiting, first_waits, second_waits, to_first, to_second, Drawn, AfterPairPost, AfterDraw}
+use Rattle.layers.specs.Pairs.{fits, pair_width, pair_waiting, first_waits, second_waits, to_second, Drawn, AfterPairPost, AfterDraw}
 use Rattle.layers.specs.Layers.{Formula, layer}
 use Rattle.layers.specs.PairFacts.{width_fits, first_le, waits_first, waits_past, waits_second, Leads}
 

@@ -9,7 +9,7 @@ use Rattle.arbiter.proofs.HeldLaws.{held_lawful}
 use Rattle.arbiter.proofs.Services.{idle_delay}
 use Rattle.arbiter.proofs.Someone.{someone_at, the_one, nobody_at}
 use Rattle.layers.specs.declared.pair.Pair.{Pair}
-use Rattle.layers.specs.Pairs.{fits, pair_width, pair_waiting, pair_last, is_first, first_waits, second_waits, to_first, to_second}
+use Rattle.layers.specs.Pairs.{fits, pair_width, pair_waiting, pair_last, is_first, first_waits, second_waits}
 use Rattle.layers.specs.Layers.{layer, layer_moves}
 use Rattle.layers.specs.Alone.{Alone}
 use Rattle.layers.specs.declared.alternation.Alternation.{Alternation}

@@ -1,6 +1,6 @@
 -- What the plan's answers to a row say of the row.
 -- Assumes nothing.
-use Rattle.std.proofs.Common.{◌≡◌, ℕ, Some, None, Ok, Err, Option, Result, sym, refl, ap, ◌∙◌, inl, arith}
+use Rattle.std.proofs.Common.{◌≡◌, ℕ, Some, None, Ok, Err, Option, Result, sym, ap, ◌∙◌, inl, arith}
 use Rattle.plan.specs.Rows.{Plan}
 use Rattle.plan.specs.Rules.{Answered}
 use Rattle.plan.specs.declared.rows.Refusal.{Refusal}

@@ -1,11 +1,10 @@
 -- How far the loading of a sheet has come, line by line.
 -- Assumes nothing.
-use Rattle.std.proofs.Common.{◌≡◌, ℕ, ◌+◌, ◌-◌, ◌<◌, ◌≤◌, List, [], ◌∷◌, ◌++◌, map, length, take, drop, Some, None, Ok, Err, vec_items, fold, Option, Result, sym, refl, ap, ◌∙◌, subst, ⊎_elim, arith, length-drop}
+use Rattle.std.proofs.Common.{◌≡◌, ℕ, ◌+◌, ◌<◌, ◌≤◌, List, [], ◌∷◌, ◌++◌, length, take, drop, Some, None, Ok, Err, Result, sym, refl, ap, ◌∙◌, subst, ⊎_elim, arith, length-drop}
 use Rattle.std.proofs.lemmas.List.{drop_more, flat_map_more, take_all, take_more}
 use Rattle.std.proofs.lemmas.List.Sums.{fold_push}
 use Rattle.plan.specs.Rows.{Plan}
 use Rattle.plan.specs.declared.rows.Refusal.{Refusal}
-use Rattle.plan.specs.declared.rows.Refusal.TheVariants.{Memory}
 use Rattle.sheet.specs.Lines.{parsed, then}
 use Rattle.sheet.specs.Reading.{Reading, answer_after, continued, fault_after, next_row}
 use Rattle.sheet.specs.Rows.{Row, dependency}

@@ -1,9 +1,9 @@
 -- What loading a sheet does.
-use Rattle.std.specs.Prelude.{◌≡◌, ℕ, ◌+◌, ◌<◌, ◌≤◌, ◌⊎◌, List, ◌++◌, map, length, take, Some, None, Ok, Err, vec_items, Option, Result, slice_index_or}
+use Rattle.std.specs.Prelude.{◌≡◌, ℕ, ◌+◌, ◌<◌, ◌⊎◌, List, ◌++◌, map, length, take, Some, None, Ok, Err, vec_items, Result, slice_index_or}
 use Rattle.plan.specs.Rows.{Plan}
 use Rattle.plan.specs.declared.rows.Refusal.{Refusal}
 use Rattle.plan.specs.declared.rows.Refusal.TheVariants.{Memory}
-use Rattle.sheet.specs.Reading.{Reading, whole_reading}
+use Rattle.sheet.specs.Reading.{Reading}
 use Rattle.sheet.specs.Rows.{Row, dependency}
 use Rattle.sheet.specs.declared.faults.Fault.{Fault}
 use Rattle.loader.specs.declared.faults.LoadFault.{LoadFault}

@@ -1,5 +1,5 @@
 -- The plans of the program as values, what a closed one tells, and where a row more needs memory.
-use Rattle.std.specs.Prelude.{◌≡◌, ℕ, ◌-◌, ◌<◌, ◌≤◌, Bool, cond, ◌&&◌, List, map, length, Ok, Err, vec_items, vec_len, vec_capacity, Option, Result, nat_lt, slice_index_or}
+use Rattle.std.specs.Prelude.{◌≡◌, ℕ, ◌-◌, ◌<◌, ◌≤◌, Bool, cond, ◌&&◌, length, Ok, Err, vec_items, vec_len, vec_capacity, Option, Result, nat_lt, slice_index_or}
 use Rattle.std.specs.Borrow.{Bor}
 use Rattle.plan.specs.declared.rows.Refusal.{Refusal}
 use Rattle.plan.specs.declared.rows.Refusal.TheVariants.{Unknown}

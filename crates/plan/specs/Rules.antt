@@ -1,5 +1,5 @@
 -- The rules of a plan's rows: when a row is refused, what it adds, and what every plan keeps.
-use Rattle.std.specs.Prelude.{◌≡◌, ℕ, ◌+◌, ◌-◌, ◌<◌, ◌≤◌, Bool, true, false, cond, not, ◌&&◌, ◌||◌, List, [], ◌∷◌, ◌++◌, length, Some, None, Ok, Err, sum_by, Option, Result, ◌==◌, nat_le, nat_lt, slice_set}
+use Rattle.std.specs.Prelude.{◌≡◌, ℕ, ◌-◌, ◌<◌, ◌≤◌, Bool, true, false, cond, not, ◌&&◌, ◌||◌, List, [], ◌∷◌, ◌++◌, length, Some, None, Ok, Err, sum_by, Option, Result, ◌==◌, nat_le, nat_lt, slice_set}
 use Rattle.plan.specs.declared.rows.Head.{Head}
 use Rattle.plan.specs.declared.rows.Refusal.{Refusal}
 use Rattle.plan.specs.declared.rows.Refusal.TheVariants.{Order, Range, Full, Unknown, Twice, Memory}

@@ -2,8 +2,8 @@
 use crate::calls;
 use crate::steps::{Answer, Difference, Question, Step};
 use arbiter::Arbiter;
-use date_check::{Dates, Refusal, check};
 use cluster::SetUpRefusal;
+use date_check::{Dates, Refusal, check};
 use plan::closed::ClosedPlan;
 use run::Run;
 use std::alloc::Global;

@@ -8,7 +8,7 @@ use Rattle.cluster.specs.declared.place.Place.{Place}
 use Rattle.cluster.specs.declared.place.Place.TheVariants.{Idle, Working, Waiting, Served}
 use Rattle.cluster.specs.declared.service.Service.{Service}
 use Rattle.cluster.specs.Cycles.{TurnOf, Turns, all_ended, all_retired, end_service, ended, next_turn, no_turn, picked, retire, retired}
-use Rattle.cluster.specs.States.{State, each, place_of, service_of, with_arbiters}
+use Rattle.cluster.specs.States.{State, each, place_of, service_of}
 
 module _ {A : Type 0} where
   cond_keeps : (b : Bool) (s t : State A) → t.breach ≡ s.breach → (cond b t s).breach ≡ s.breach

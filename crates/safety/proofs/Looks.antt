@@ -19,7 +19,7 @@ use Rattle.safety.proofs.Phases.{EndedBelow, PickedBelow, RetiredBelow, Sane, Tu
 use Rattle.safety.proofs.Releases.{Reached, Well}
 use Rattle.safety.proofs.Setting.{Setting, banks, due, home, release, rows}
 use Rattle.safety.proofs.Uses.{Lively, Stocked, used_paid, used_stocked}
-use Rattle.safety.proofs.Views.{Sized, used, view, view_renewed, view_used}
+use Rattle.safety.proofs.Views.{Sized, view, view_renewed, view_used}
 
 not_both : (x y : Bool) → (x ≡ true → y ≡ false) → (x && y) ≡ false
 not_both true y h = h refl

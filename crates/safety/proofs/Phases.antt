@@ -16,7 +16,7 @@ use Rattle.safety.proofs.Setting.{Setting, banks, latency}
 use Rattle.safety.proofs.Standing.{cycles_of, holder, stands_at}
 use Rattle.safety.proofs.Steps.{Step, end_step, retire_step, turn_step}
 use Rattle.safety.proofs.Uses.{Busy, Lively, Stocked, used_linked, used_timely}
-use Rattle.safety.proofs.Views.{Sized, used, view, view_used}
+use Rattle.safety.proofs.Views.{Sized, view, view_used}
 
 some_latency : (o : Option Head) → legal_heading o ≡ true → 0 < banks_of o → 1 ≤ latency_of o
 some_latency None l h = absurd (omega arith)

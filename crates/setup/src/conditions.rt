@@ -10,8 +10,8 @@ ghost use Rattle.setup.specs.Questions.{Rests, dates_refusal};
 
 use crate::heads::head_of;
 use arbiter::Arbiter;
-use date_check::Dates;
 use cluster::SetUpRefusal;
+use date_check::Dates;
 use plan::closed::ClosedPlan;
 
 const LIMIT: u32 = 1_000_000_000;

@@ -1,6 +1,5 @@
-use Rattle.std.proofs.Common.{◌≡◌, true, Some, sym, ap, subst, arith}
+use Rattle.std.proofs.Common.{◌≡◌, true, sym, ap, subst, arith}
 use Rattle.std.proofs.lemmas.Bool.Decides.{nat_tests}
-use Rattle.plan.specs.Plans.{closed}
 use Rattle.plan.specs.Rules.{banks_of, legal_head, legal_heading, places_of}
 use Rattle.date_check.proofs.Reading.{kept_of}
 use Rattle.answering.proofs.makes.extent.Goals as goal

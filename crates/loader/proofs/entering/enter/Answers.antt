@@ -1,4 +1,4 @@
-use Rattle.std.proofs.Common.{◌≡◌, ap, subst}
+use Rattle.std.proofs.Common.{ap}
 use Rattle.plan.specs.Plans.{opened}
 use Rattle.plan.specs.Rules.{head_refusal, with_head}
 use Rattle.sheet.specs.Rows.{row_of}

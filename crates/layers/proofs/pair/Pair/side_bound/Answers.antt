@@ -1,4 +1,4 @@
-use Rattle.std.proofs.Common.{◌-◌, arith}
+use Rattle.std.proofs.Common.{arith}
 use Rattle.arbiter.specs.Given.{model}
 use Rattle.layers.specs.Pairs.{pair_width}
 use Rattle.layers.specs.Limits.{accepted, first_answer, second_answer}

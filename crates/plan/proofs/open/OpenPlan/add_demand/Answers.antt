@@ -1,9 +1,9 @@
-use Rattle.std.proofs.Common.{◌≡◌, ℕ, ◌-◌, ◌<◌, ◌≤◌, length, get_or, set, None, vec_items, vec_len, sym, refl, ◌∙◌, subst, arith}
+use Rattle.std.proofs.Common.{◌≡◌, ℕ, ◌-◌, ◌<◌, ◌≤◌, get_or, set, None, vec_items, vec_len, sym, refl, ◌∙◌, subst, arith}
 use Rattle.std.proofs.lemmas.List.{length-map}
 use Rattle.plan.specs.declared.open.OpenPlan.{OpenPlan}
 use Rattle.plan.specs.declared.rows.Task.{Task}
 use Rattle.plan.specs.Plans.{opened}
-use Rattle.plan.specs.Rows.{Plan, plan_of, row_of}
+use Rattle.plan.specs.Rows.{plan_of, row_of}
 use Rattle.plan.specs.Rules.{Kept, demand_refusal, with_accesses, with_demand}
 use Rattle.plan.proofs.Keeping.{demand_kept, demand_room, few_banks, known}
 use Rattle.plan.proofs.Views.{newest_changed}

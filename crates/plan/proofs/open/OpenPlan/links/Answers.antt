@@ -1,10 +1,7 @@
-use Rattle.std.proofs.Common.{◌≡◌, ℕ, ◌+◌, ◌<◌, ◌≤◌, List, map, length, get_or, take, vec_items, sum_by, sym, ap, ◌∙◌, arith}
-use Rattle.std.proofs.lemmas.List.{get_or_read, take_all}
+use Rattle.std.proofs.Common.{◌≡◌, ◌+◌, ◌<◌, length, get_or, take, vec_items, sum_by, sym, ap, ◌∙◌, arith}
+use Rattle.std.proofs.lemmas.List.{take_all}
 use Rattle.std.proofs.lemmas.List.Sums.{sum_by_more, sum_by-take-le}
-use Rattle.plan.specs.declared.rows.Task.{Task}
 use Rattle.plan.specs.Plans.{opened}
-use Rattle.plan.specs.Rows.{row_of}
-use Rattle.plan.specs.Rules.{named}
 use Rattle.plan.proofs.Keeping.{known}
 use Rattle.plan.proofs.Views.{named_tasks}
 use Rattle.plan.proofs.open.OpenPlan.links.Goals as goal

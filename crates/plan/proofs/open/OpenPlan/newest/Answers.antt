@@ -1,4 +1,4 @@
-use Rattle.std.proofs.Common.{◌≡◌, ◌-◌, length, vec_items, subst}
+use Rattle.std.proofs.Common.{◌-◌, length, vec_items, subst}
 use Rattle.std.specs.Slice.{IsGetResult}
 use Rattle.plan.proofs.Views.{last_row}
 use Rattle.plan.proofs.open.OpenPlan.newest.Goals as goal

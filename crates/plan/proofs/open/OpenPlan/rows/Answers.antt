@@ -1,4 +1,4 @@
-use Rattle.std.proofs.Common.{length, vec_items, sym, ◌∙◌}
+use Rattle.std.proofs.Common.{vec_items, sym, ◌∙◌}
 use Rattle.std.proofs.lemmas.List.{length-map}
 use Rattle.plan.specs.Rows.{row_of}
 use Rattle.plan.proofs.open.OpenPlan.rows.Goals as goal

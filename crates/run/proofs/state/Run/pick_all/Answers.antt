@@ -1,4 +1,4 @@
-use Rattle.std.proofs.Common.{suc, sym, refl, ap, subst, add-one}
+use Rattle.std.proofs.Common.{sym, refl, subst, add-one}
 use Rattle.arbiter.specs.Given.{model}
 use Rattle.plan.specs.Plans.{closed}
 use Rattle.date_check.specs.Sound.{latency_of}

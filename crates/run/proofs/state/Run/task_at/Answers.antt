@@ -1,4 +1,4 @@
-use Rattle.std.proofs.Common.{◌≡◌, ◌<◌, length, arith}
+use Rattle.std.proofs.Common.{◌<◌, length, arith}
 use Rattle.date_check.proofs.Reading.{kept_of, read_count, read_place, read_row}
 use Rattle.run.proofs.state.Run.task_at.Goals as goal
 
