@@ -1,7 +1,7 @@
 -- Plans with lawful arbiters are lawful systems of tasks.
 -- Assumes nothing.
 use Rattle.std.proofs.Common.{◌≡◌, ℕ, ◌+◌, ◌<◌, ◌≤◌, Bool, true, false, cond, ◌&&◌, eqb, List, [], ◌∷◌, length, get_or, refl, mul-le-mul_left, arith}
-use Rattle.std.specs.List.{AllByRecursion as All}
+use Rattle.std.specs.List.{AllByRecursion}
 use Rattle.plan.specs.Rows.{Plan, accesses, row}
 use Rattle.plan.specs.Rules.{Kept, places_of}
 use Rattle.plan.proofs.Waiting.{waits_below}
@@ -36,7 +36,7 @@ module _ {S : Type 0} (m : Model S) (laws : arbiters_keep.Lawful m) (p : Plan) (
         sum_below_le (length p.rows) (share p.rows few bank o) (share p.rows more bank o) (λ k j. share_grows few more bank o k (h k j)),
       )
 
-  services_grow : (i bank : ℕ) (few more : ℕ → Bool) (arbiters : List S) → i < length p.rows → ((k : ℕ) → k < length p.rows → few k ≡ true → more k ≡ true) → All (λ a. places_of p.head ≤ m.width a) arbiters → services m p.rows few i bank arbiters ≤ services m p.rows more i bank arbiters
+  services_grow : (i bank : ℕ) (few more : ℕ → Bool) (arbiters : List S) → i < length p.rows → ((k : ℕ) → k < length p.rows → few k ≡ true → more k ≡ true) → AllByRecursion (λ a. places_of p.head ≤ m.width a) arbiters → services m p.rows few i bank arbiters ≤ services m p.rows more i bank arbiters
   services_grow i bank few more [] l h wide = omega arith
   services_grow i bank few more (a ∷ rest) l h wide =
       omega (
@@ -47,7 +47,7 @@ module _ {S : Type 0} (m : Model S) (laws : arbiters_keep.Lawful m) (p : Plan) (
         services_grow i (bank + 1) few more rest l h wide.1,
       )
 
-  pub lawful : (arbiters : List S) → All (λ a. places_of p.head ≤ m.width a) arbiters → systems.Lawful (system m p arbiters)
+  pub lawful : (arbiters : List S) → AllByRecursion (λ a. places_of p.head ≤ m.width a) arbiters → systems.Lawful (system m p arbiters)
   lawful arbiters wide = record {
     work_grows = λ i l few more h. omega (arith, mul-le-mul_left (latency_of p.head) (services_grow i 0 few more arbiters l h wide));
     work_positive = λ i l met. omega (arith, (kept.legal i l).some);
@@ -57,7 +57,7 @@ module _ {S : Type 0} (m : Model S) (laws : arbiters_keep.Lawful m) (p : Plan) (
   }
 
   -- Consistent dates that end within the period are sound.
-  pub consistent_sound : (arbiters : List S) → All (λ a. places_of p.head ≤ m.width a) arbiters → (table : List Dates) → ConsistentDates m p arbiters table → ((i : ℕ) → i < length p.rows → finish (dated table i) ≤ period_of p.head) → Sound m p arbiters table
+  pub consistent_sound : (arbiters : List S) → AllByRecursion (λ a. places_of p.head ≤ m.width a) arbiters → (table : List Dates) → ConsistentDates m p arbiters table → ((i : ℕ) → i < length p.rows → finish (dated table i) ≤ period_of p.head) → Sound m p arbiters table
   consistent_sound arbiters wide table g fits =
       let l = lawful arbiters wide in
       record {
@@ -67,7 +67,7 @@ module _ {S : Type 0} (m : Model S) (laws : arbiters_keep.Lawful m) (p : Plan) (
         in_period = fits;
       }
 
-  pub dated_plan : DatesAreDetermined → RoundsEnd → (arbiters : List S) → All (λ a. places_of p.head ≤ m.width a) arbiters → Dated m p arbiters
+  pub dated_plan : DatesAreDetermined → RoundsEnd → (arbiters : List S) → AllByRecursion (λ a. places_of p.head ≤ m.width a) arbiters → Dated m p arbiters
   dated_plan determined ending arbiters wide = record {
     determined = determined (system m p arbiters) (lawful arbiters wide);
     ending = ending (system m p arbiters) (lawful arbiters wide);

@@ -1,6 +1,6 @@
 -- Plans and their arbiters as systems of tasks, and what is proved of their dates.
 use Rattle.std.specs.Prelude.{ℕ, ◌<◌, ◌≤◌, not, List, length, ◌==◌}
-use Rattle.std.specs.List.{AllByRecursion as All}
+use Rattle.std.specs.List.{AllByRecursion}
 use Rattle.plan.specs.Rows.{Plan, row}
 use Rattle.plan.specs.Rules.{Kept, places_of}
 use Rattle.plan.specs.Waits.{waits_for}
@@ -43,4 +43,4 @@ pub record Dated {S : Type 0} (m : Model S) (p : Plan) (arbiters : List S) : Typ
 
 -- This holds of every plan that keeps its rules, with arbiters none of which is narrower than its places.
 abbrev pub PlansAreDated : {S : Type 0} → Model S → Type 0
-PlansAreDated {S} m = (p : Plan) (arbiters : List S) → Kept p → All (λ a. places_of p.head ≤ m.width a) arbiters → Dated m p arbiters
+PlansAreDated {S} m = (p : Plan) (arbiters : List S) → Kept p → AllByRecursion (λ a. places_of p.head ≤ m.width a) arbiters → Dated m p arbiters

@@ -1,6 +1,6 @@
 -- What the working tables of the analysis hold, step by step.
 use Rattle.std.specs.Prelude.{◌≡◌, ℕ, ◌+◌, ◌^◌, ◌<◌, ◌≤◌, Bool, true, false, not, ◌&&◌, ◌≢◌, List, [], length, Some, Ok, Err, Option, Result, MatchOption, ◌==◌, nat_lt, slice_index, slice_index_or}
-use Rattle.std.specs.List.{AllByRecursion as All}
+use Rattle.std.specs.List.{AllByRecursion}
 use Rattle.plan.specs.declared.rows.Head.{Head}
 use Rattle.plan.specs.declared.rows.Task.{Task}
 use Rattle.plan.specs.Rows.{Plan, Row, plan_of, row}
@@ -29,7 +29,7 @@ KeptTasks tasks = (head : Head) × Kept (planned head tasks)
 pub record Asked {S : Type 0} (m : Model S) (p : Plan) (arbiters : List S) : Type 0 where
   pub kept : Kept p
   pub one_per_bank : length arbiters ≡ banks_of p.head
-  pub wide : All (λ a. places_of p.head ≤ m.width a) arbiters
+  pub wide : AllByRecursion (λ a. places_of p.head ≤ m.width a) arbiters
 
 -- A column as a table; only the rows of tasks mean anything.
 abbrev pub column : Column → Table

@@ -3,7 +3,7 @@
 use Rattle.std.proofs.Common.{◌≡◌, ℕ, ◌+◌, ◌<◌, ◌≤◌, false, List, [], ◌∷◌, ◌++◌, map, length, Ok, Err, codes, Result, sym, refl, ap, ◌∙◌, subst, inl, inr, arith}
 use Rattle.std.proofs.lemmas.List.{ext_get_or, get_or-map, length-map}
 use Rattle.std.proofs.lemmas.Bool.{cases_lt}
-use Rattle.std.specs.List.{AllByRecursion as All}
+use Rattle.std.specs.List.{AllByRecursion}
 use Rattle.plan.specs.Rows.{Plan}
 use Rattle.plan.specs.Rules.{Kept, places_of}
 use Rattle.arbiter.specs.Meaning.{Model}
@@ -58,14 +58,14 @@ module _ {S : Type 0} (m : Model S) (theory : PlansAreDated m) (p : Plan) (kept 
   theirs_counted : {count : ℕ} {rel res : Table} → Rounds (system m p ys) count rel res → Rounds (system m p xs) count rel res
   theirs_counted {count} {rel} {res} c = subst (λ (y : System). Rounds y count rel res) (sym (system_same m p xs ys alike)) c
 
-  same_dates : All (λ a. places_of p.head ≤ m.width a) xs → (rel res rel' res' : Table) → Consistent (system m p xs) rel res → Consistent (system m p ys) rel' res' → Same (system m p xs) rel rel' × Same (system m p xs) res res'
+  same_dates : AllByRecursion (λ a. places_of p.head ≤ m.width a) xs → (rel res rel' res' : Table) → Consistent (system m p xs) rel res → Consistent (system m p ys) rel' res' → Same (system m p xs) rel rel' × Same (system m p xs) res res'
   same_dates wide rel res rel' res' c d = (theory p xs kept wide).determined.dates_unique rel res rel' res' c (theirs d)
 
   same_finish : (rel res rel' res' : Table) (i : ℕ) → i < length p.rows → Same (system m p xs) rel rel' × Same (system m p xs) res res' → finish rel res i ≡ finish rel' res' i
   same_finish rel res rel' res' i l same = omega (arith, same.0 i l, same.1 i l)
 
   -- The lowest late row is one row.
-  late_same : (i j f g : ℕ) → All (λ a. places_of p.head ≤ m.width a) xs → analysis.LateRow m p xs i f → analysis.LateRow m p ys j g → late i f ≡ late j g
+  late_same : (i j f g : ℕ) → AllByRecursion (λ a. places_of p.head ≤ m.width a) xs → analysis.LateRow m p xs i f → analysis.LateRow m p ys j g → late i f ≡ late j g
   late_same i j f g wide x y =
       let same = same_dates wide x.rel x.res y.rel y.res x.consistent y.consistent in
       elim (cases_lt i j) [
@@ -80,12 +80,12 @@ module _ {S : Type 0} (m : Model S) (theory : PlansAreDated m) (p : Plan) (kept 
       ]
 
   -- Granted dates leave no row late.
-  not_late : (old new : List Dates) (rounds i f : ℕ) → All (λ a. places_of p.head ≤ m.width a) xs → analysis.Granted m p xs old new rounds → analysis.LateRow m p ys i f → ⊥
+  not_late : (old new : List Dates) (rounds i f : ℕ) → AllByRecursion (λ a. places_of p.head ≤ m.width a) xs → analysis.Granted m p xs old new rounds → analysis.LateRow m p ys i f → ⊥
   not_late old new rounds i f wide x y =
       let same = same_dates wide (releases new) (responses new) y.rel y.res x.consistent y.consistent in
       omega (arith, x.in_period i y.task, same_finish (releases new) (responses new) y.rel y.res i y.task same, y.ends, y.late)
 
-  all_same : (names : List (List ℕ)) (old new old' new' : List Dates) (r s : ℕ) (t u : List ℕ) → length old ≡ length p.rows → length old' ≡ length p.rows → All (λ a. places_of p.head ≤ m.width a) xs → analysis.Granted m p xs old new r → analysis.Granted m p ys old' new' s → ListsGranted r new names t → ListsGranted s new' names u → t ≡ u
+  all_same : (names : List (List ℕ)) (old new old' new' : List Dates) (r s : ℕ) (t u : List ℕ) → length old ≡ length p.rows → length old' ≡ length p.rows → AllByRecursion (λ a. places_of p.head ≤ m.width a) xs → analysis.Granted m p xs old new r → analysis.Granted m p ys old' new' s → ListsGranted r new names t → ListsGranted s new' names u → t ≡ u
   all_same names old new old' new' r s t u l k wide x y =
       let same = same_dates wide (releases new) (responses new) (releases new') (responses new') x.consistent y.consistent in
       let counts = (theory p xs kept wide).ending.count_unique r s (releases new) (responses new) (releases new') (responses new') x.counted (theirs_counted y.counted) in

@@ -3,7 +3,7 @@
 use Rattle.std.proofs.Common.{◌≡◌, ℕ, ◌+◌, ◌*◌, ◌≤◌, Bool, true, not, ◌&&◌, eqb, leb, List, [], ◌∷◌, length, sym, refl, ap, ◌∙◌, arith, eq-eqb}
 use mathlib.Core.Path.{fun_ext}
 use Rattle.std.proofs.lemmas.Bool.Decides.{nat_tests}
-use Rattle.std.specs.List.{AllByRecursion as All}
+use Rattle.std.specs.List.{AllByRecursion}
 use Rattle.plan.specs.Rows.{Plan, Row, accesses, row}
 use Rattle.plan.specs.Rules.{banks_of, places_of}
 use Rattle.plan.specs.Waits.{waits_for}
@@ -28,7 +28,7 @@ piles_keep a b x y = record {
 }
 
 module _ {S : Type 0} (m : Model S) where
-  pub all_keep : (New : S → Type 0) → ((a b : S) → New a → New b → Keeps m a b) → (xs ys : List S) → length xs ≡ length ys → All New xs → All New ys → AllKeep m xs ys
+  pub all_keep : (New : S → Type 0) → ((a b : S) → New a → New b → Keeps m a b) → (xs ys : List S) → length xs ≡ length ys → AllByRecursion New xs → AllByRecursion New ys → AllKeep m xs ys
   all_keep New keep [] [] l h k = tt
   all_keep New keep [] (y ∷ ys) l h k = absurd (omega arith)
   all_keep New keep (x ∷ xs) [] l h k = absurd (omega arith)
@@ -68,7 +68,7 @@ module _ {S : Type 0} (m : Model S) where
   pub fit_keep : (p : Plan) (xs ys : List S) → AllKeep m xs ys → arbiters_fit m p xs ≡ arbiters_fit m p ys
   fit_keep p xs ys h = ap (λ n. eqb n (banks_of p.head) && all_wide m (places_of p.head) xs) (length_keep xs ys h) ∙ ap (λ b. eqb (length ys) (banks_of p.head) && b) (wide_keep (places_of p.head) xs ys h)
 
-  all_are_wide : (n : ℕ) (xs : List S) → All (λ a. n ≤ m.width a) xs → all_wide m n xs ≡ true
+  all_are_wide : (n : ℕ) (xs : List S) → AllByRecursion (λ a. n ≤ m.width a) xs → all_wide m n xs ≡ true
   all_are_wide n [] h = refl
   all_are_wide n (x ∷ xs) h = let first = h.0 in let rest = all_are_wide n xs h.1 in grind (arith, nat_tests)
 

@@ -1,6 +1,6 @@
 -- The listing that answers a sheet.
 use Rattle.std.specs.Prelude.{◌≡◌, ℕ, ◌<◌, ◌≤◌, List, [], map, length, Some, None, Ok, Err, Option, Result}
-use Rattle.std.specs.List.{AllByRecursion as All}
+use Rattle.std.specs.List.{AllByRecursion}
 use Rattle.plan.specs.Rows.{Plan}
 use Rattle.plan.specs.Rules.{banks_of, places_of}
 use Rattle.sheet.specs.Reading.{whole_reading}
@@ -56,7 +56,7 @@ pub record ListsPlan {S : Type 0} (m : Model S) (p : Plan) (arbiters : List S) (
 -- One new arbiter per bank.
 pub record OnePerBank {S : Type 0} (New : S → Type 0) (p : Plan) (arbiters : List S) : Type 0 where
   pub count : length arbiters ≡ banks_of p.head
-  pub new : All New arbiters
+  pub new : AllByRecursion New arbiters
 
 -- The listing of a plan whose banks each have a new arbiter of some make.
 pub record ListsMade {S : Type 0} (m : Model S) (New : S → Type 0) (p : Plan) (names : List (List ℕ)) (text : List ℕ) : Type 0 where

@@ -1,6 +1,6 @@
 // New arbiters, one per bank.
 ghost use Rattle.std.specs.Prelude.{◌≡◌, ◌≤◌, length, IfOk};
-ghost use Rattle.std.specs.List.{AllByRecursion as All};
+ghost use Rattle.std.specs.List.{AllByRecursion};
 ghost use Rattle.rings.specs.Rings.{NewRing};
 ghost use Rattle.bostan.specs.Piles.{NewPile};
 
@@ -12,7 +12,7 @@ use std::alloc::Global;
 // Rings over all places.
 pub(crate) fn new_rings(heap: Global, places: usize, banks: usize) -> Result<Vec<Ring>, OutOfMemory>
     requires { 1 ≤ banks → (1 ≤ places) × (places ≤ 32) }
-    ensures { IfOk result (λ v. (length v.items ≡ banks) × All (NewRing places) v.items) }
+    ensures { IfOk result (λ v. (length v.items ≡ banks) × AllByRecursion (NewRing places) v.items) }
 {
     let mut rings = Vec::new(heap);
     for _ in 0..banks {
@@ -22,7 +22,7 @@ pub(crate) fn new_rings(heap: Global, places: usize, banks: usize) -> Result<Vec
 }
 
 pub(crate) fn new_piles(heap: Global, banks: usize) -> Result<Vec<Pile>, OutOfMemory>
-    ensures { IfOk result (λ v. (length v.items ≡ banks) × All NewPile v.items) }
+    ensures { IfOk result (λ v. (length v.items ≡ banks) × AllByRecursion NewPile v.items) }
 {
     let mut piles = Vec::new(heap);
     for _ in 0..banks {

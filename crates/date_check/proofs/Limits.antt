@@ -3,7 +3,7 @@
 use Rattle.std.proofs.Common.{◌≡◌, ℕ, ◌+◌, ◌*◌, ◌^◌, ◌<◌, ◌≤◌, Bool, true, false, cond, not, ◌&&◌, eqb, List, [], ◌∷◌, length, get_or, drop, sym, refl, ap, ◌∙◌, subst, inl, inr, mul-le-mul, arith}
 use Rattle.std.proofs.lemmas.List.{drop_more}
 use Rattle.std.proofs.lemmas.Bool.{cases_eq, eq-eqb, ne_eqb}
-use Rattle.std.specs.List.{AllByRecursion as All}
+use Rattle.std.specs.List.{AllByRecursion}
 use Rattle.plan.specs.Rows.{Plan, Row, accesses, row}
 use Rattle.plan.specs.Rules.{Kept, places_of}
 use Rattle.plan.proofs.Keeping.{few_banks}
@@ -103,16 +103,16 @@ module _ (p : Plan) (kept : Kept p) (met : ℕ → Bool) where
         ap (services m p.rows met i bank) (drop_more arbiters bank a l)
         ∙ ap (λ x. services m p.rows met i bank (x ∷ drop (bank + 1) arbiters)) (sym e)
 
-    pub services_limit : (i bank : ℕ) (arbiters : List S) → i < length p.rows → met i ≡ false → All (λ a. places_of p.head ≤ m.width a) arbiters → services m p.rows met i bank arbiters ≤ length arbiters * limit
+    pub services_limit : (i bank : ℕ) (arbiters : List S) → i < length p.rows → met i ≡ false → AllByRecursion (λ a. places_of p.head ≤ m.width a) arbiters → services m p.rows met i bank arbiters ≤ length arbiters * limit
     services_limit i bank [] l alone wide = omega arith
     services_limit i bank (a ∷ rest) l alone wide = omega (arith, bound_limit a i bank l alone wide.0, services_limit i (bank + 1) rest l alone wide.1)
 
     -- At most 16 banks,
-    pub services_few : (arbiters : List S) (i : ℕ) → length arbiters ≤ 16 → All (λ a. places_of p.head ≤ m.width a) arbiters → i < length p.rows → met i ≡ false → services m p.rows met i 0 arbiters ≤ 268431360
+    pub services_few : (arbiters : List S) (i : ℕ) → length arbiters ≤ 16 → AllByRecursion (λ a. places_of p.head ≤ m.width a) arbiters → i < length p.rows → met i ≡ false → services m p.rows met i 0 arbiters ≤ 268431360
     services_few arbiters i few wide l alone = omega (arith, services_limit i 0 arbiters l alone wide)
 
     -- so no task takes 2^35 cycles or more.
-    pub work_limit : (arbiters : List S) (i : ℕ) → length arbiters ≤ 16 → All (λ a. places_of p.head ≤ m.width a) arbiters → i < length p.rows → met i ≡ false → work m p arbiters i met < 2 ^ 35
+    pub work_limit : (arbiters : List S) (i : ℕ) → length arbiters ≤ 16 → AllByRecursion (λ a. places_of p.head ≤ m.width a) arbiters → i < length p.rows → met i ≡ false → work m p arbiters i met < 2 ^ 35
     work_limit arbiters i few wide l alone =
         omega (arith, latency_limit (latency_of p.head) (services m p.rows met i 0 arbiters) (low_latency p.head kept.headed) (services_few arbiters i few wide l alone), (kept.legal i l).short)
 

@@ -4,7 +4,7 @@ use Rattle.std.proofs.Common.{◌≡◌, ℕ, zero, suc, ◌+◌, ◌<◌, ◌�
 use Rattle.std.proofs.lemmas.List.{drop_more}
 use Rattle.std.proofs.lemmas.Bool.{and_from, and_parts, cases_eq, eq-eqb, eqb-true, le-leb, leb-true, lt-ltb, ltb-true}
 use Rattle.std.specs.Result.{result_and}
-use Rattle.std.specs.List.{AllByRecursion as All}
+use Rattle.std.specs.List.{AllByRecursion}
 use Rattle.plan.specs.Rows.{Plan, row}
 use Rattle.plan.specs.Rules.{Kept, banks_of, places_of}
 use Rattle.arbiter.specs.Meaning.{Model}
@@ -29,7 +29,7 @@ both_passed : (first then : Result (Unit {0}) Refusal) → result_and first then
 both_passed (Ok x) then e = (refl, e)
 both_passed (Err f) then e = let z : ◌≡◌ {A = ℕ} 0 1 = cc in absurd (omega arith)
 
-pub wide_all : {S : Type 0} (m : Model S) (places : ℕ) (arbiters : List S) → all_wide m places arbiters ≡ true → All (λ a. places ≤ m.width a) arbiters
+pub wide_all : {S : Type 0} (m : Model S) (places : ℕ) (arbiters : List S) → all_wide m places arbiters ≡ true → AllByRecursion (λ a. places ≤ m.width a) arbiters
 wide_all m places [] h = tt
 wide_all m places (a ∷ rest) h = let parts = and_parts (leb places (m.width a)) (all_wide m places rest) h in (leb-true places (m.width a) parts.0, wide_all m places rest parts.1)
 
@@ -37,7 +37,7 @@ wide_all m places (a ∷ rest) h = let parts = and_parts (leb places (m.width a)
 pub wide_more : {S : Type 0} (m : Model S) (places : ℕ) (arbiters : List S) (j : ℕ) (a : S) → j < length arbiters → a ≡ get_or arbiters j a → all_wide m places (drop j arbiters) ≡ (leb places (m.width a) && all_wide m places (drop (j + 1) arbiters))
 wide_more m places arbiters j a l e = ap (all_wide m places) (drop_more arbiters j a l) ∙ ap (λ x. leb places (m.width x) && all_wide m places (drop (j + 1) arbiters)) (sym e)
 
-all_wide_yes : {S : Type 0} (m : Model S) (places : ℕ) (arbiters : List S) → All (λ a. places ≤ m.width a) arbiters → all_wide m places arbiters ≡ true
+all_wide_yes : {S : Type 0} (m : Model S) (places : ℕ) (arbiters : List S) → AllByRecursion (λ a. places ≤ m.width a) arbiters → all_wide m places arbiters ≡ true
 all_wide_yes m places [] h = refl
 all_wide_yes m places (a ∷ rest) h = and_from (leb places (m.width a)) (all_wide m places rest) (le-leb places (m.width a) h.0) (all_wide_yes m places rest h.1)
 

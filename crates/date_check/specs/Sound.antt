@@ -1,6 +1,6 @@
 -- When a table of dates is sound for a plan and its arbiters, one arbiter per bank.
 use Rattle.std.specs.Prelude.{◌≡◌, ℕ, ◌+◌, ◌*◌, ◌<◌, ◌≤◌, Bool, true, cond, not, ◌&&◌, List, [], ◌∷◌, map, length, Some, None, Option, ◌==◌, nat_lt, slice_index_or}
-use Rattle.std.specs.List.{range_with_len, AllByRecursion as All}
+use Rattle.std.specs.List.{range_with_len, AllByRecursion}
 use Rattle.plan.specs.declared.rows.Head.{Head}
 use Rattle.plan.specs.Rows.{Plan, Row, accesses, row}
 use Rattle.plan.specs.Rules.{banks_of, places_of}
@@ -63,7 +63,7 @@ worst m p arbiters table i = work m p arbiters i (meets p.rows table i)
 pub record Fits {S : Type 0} (m : Model S) (p : Plan) (arbiters : List S) (table : List Dates) : Type 0 where
   pub some : 1 ≤ length p.rows
   pub one_per_bank : length arbiters ≡ banks_of p.head
-  pub wide : All (λ a. places_of p.head ≤ m.width a) arbiters
+  pub wide : AllByRecursion (λ a. places_of p.head ≤ m.width a) arbiters
   pub row_per_task : length p.rows ≤ length table
 
 -- Sound dates.

@@ -1,6 +1,6 @@
 // What is asked before any row is judged.
 ghost use Rattle.std.specs.Prelude.{◌≡◌, ◌≤◌, true, length, OnOk};
-ghost use Rattle.std.specs.List.{AllByRecursion as All};
+ghost use Rattle.std.specs.List.{AllByRecursion};
 ghost use Rattle.plan.specs.Plans.{closed};
 ghost use Rattle.plan.specs.Rules.{banks_of, places_of};
 ghost use Rattle.arbiter.specs.Given.{model};
@@ -16,7 +16,7 @@ use plan::closed::ClosedPlan;
 // Is no arbiter narrower than the places?
 fn all_are_wide<A: Arbiter>(arbiters: &[A], places: usize) -> bool
     ensures answer { result ≡ all_wide (model A.Arbiter) places arbiters.now }
-    ensures wide { result ≡ true → All (λ a. places ≤ (model A.Arbiter).width a) arbiters.now }
+    ensures wide { result ≡ true → AllByRecursion (λ a. places ≤ (model A.Arbiter).width a) arbiters.now }
 {
     for arbiter in arbiters {
         if arbiter.width() < places {
@@ -30,7 +30,7 @@ fn all_are_wide<A: Arbiter>(arbiters: &[A], places: usize) -> bool
 fn arbiters_match<A: Arbiter>(plan: &ClosedPlan, arbiters: &[A]) -> bool
     requires { 1 ≤ length (closed plan.now).rows }
     ensures answer { result ≡ arbiters_fit (model A.Arbiter) (closed plan.now) arbiters.now }
-    ensures facts { result ≡ true → (length arbiters.now ≡ banks_of (closed plan.now).head) × All (λ a. places_of (closed plan.now).head ≤ (model A.Arbiter).width a) arbiters.now }
+    ensures facts { result ≡ true → (length arbiters.now ≡ banks_of (closed plan.now).head) × AllByRecursion (λ a. places_of (closed plan.now).head ≤ (model A.Arbiter).width a) arbiters.now }
 {
     let head = head_of(plan);
     arbiters.len() == head.banks && all_are_wide(arbiters, head.places)

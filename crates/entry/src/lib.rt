@@ -1,6 +1,6 @@
 // The way in for programs in C or Rust that link the proved code.
 #![tactic(auto)]
 
-mod listing;
+mod lending;
 
-pub use listing::jemmaril_listing;
+pub use lending::jemmaril_listing;

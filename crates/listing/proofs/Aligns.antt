@@ -1,6 +1,6 @@
 -- The lengths of lines whose numbers and names fit their columns.
 use Rattle.std.proofs.Common.{◌≡◌, ℕ, ◌+◌, ◌*◌, ◌^◌, ◌<◌, ◌≤◌, List, [], ◌∷◌, length, Some, None, decimal, Option, ap, ◌∙◌, arith, length-append}
-use Rattle.std.specs.List.{AllByRecursion as All}
+use Rattle.std.specs.List.{AllByRecursion}
 use Rattle.std.proofs.lemmas.Fmt.{length-decimal-le}
 use Rattle.sheet.specs.Columns.{column}
 use Rattle.listing.specs.Aligned.{RowAligned}
@@ -29,13 +29,13 @@ aligned_row row r few a =
       a.1,
     )
 
-aligned_rows : (row : ℕ) (rows : List Row) → row + length rows ≤ 10 ^ 10 → All RowAligned rows → length (row_lines row rows) ≡ 55 * length rows
+aligned_rows : (row : ℕ) (rows : List Row) → row + length rows ≤ 10 ^ 10 → AllByRecursion RowAligned rows → length (row_lines row rows) ≡ 55 * length rows
 aligned_rows row [] few a = omega arith
 aligned_rows row (r ∷ rs) few a =
     let rest = aligned_rows (row + 1) rs (omega arith) a.1 in
     length-append (row_line row r) (row_lines (row + 1) rs) ∙ omega (arith, aligned_row row r (omega arith) a.0)
 
-pub aligned_granted : (rounds : ℕ) (rows : List Row) → rounds < 10 ^ 10 → length rows ≤ 10 ^ 10 → All RowAligned rows
+pub aligned_granted : (rounds : ℕ) (rows : List Row) → rounds < 10 ^ 10 → length rows ≤ 10 ^ 10 → AllByRecursion RowAligned rows
     → length (granted rounds rows) ≡ 12 + 55 * length rows
 aligned_granted rounds rows small few a = omega (arith, length_granted rounds rows, aligned_number rounds small, aligned_rows 0 rows (omega arith) a)
 

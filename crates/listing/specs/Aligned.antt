@@ -1,6 +1,6 @@
 -- How long a listing is whose numbers and names fit their columns.
 use Rattle.std.specs.Prelude.{ℕ, ◌+◌, ◌*◌, ◌^◌, ◌<◌, ◌≤◌, length}
-use Rattle.std.specs.List.{AllByRecursion as All}
+use Rattle.std.specs.List.{AllByRecursion}
 use Rattle.listing.specs.declared.answer.Answer.{Answer}
 use Rattle.listing.specs.declared.answer.Answer.TheVariants.{Granted, Late, Fault}
 use Rattle.listing.specs.declared.answer.Row.{Row}
@@ -11,7 +11,7 @@ RowAligned r = (r.release + r.response < 10 ^ 10) × (length r.name.now ≤ 12)
 
 -- every number and every name fits its columns; those of 32 bits always do
 abbrev pub Aligned : Answer → Type 0
-Aligned (Granted rounds rows) = (length rows.now ≤ 10 ^ 10) × All RowAligned rows.now
+Aligned (Granted rounds rows) = (length rows.now ≤ 10 ^ 10) × AllByRecursion RowAligned rows.now
 Aligned (Late row finish) = (row < 10 ^ 10) × (finish < 10 ^ 16)
 Aligned (Fault number line column) = (line < 10 ^ 10) × (column < 10 ^ 10)
 

@@ -2,7 +2,7 @@
 use Rattle.std.proofs.Common.{◌≡◌, ℕ, zero, suc, ◌<◌, ◌≤◌, true, false, not, eqb, ltb, leb, List, [], ◌∷◌, length, get_or, Some, None, Option, sym, refl, ap, ◌∙◌, inl, inr, arith}
 use Rattle.std.proofs.lemmas.Bool.{and_from, and_parts, cases_Bool, cases_eq, eq-eqb, eqb-true, le-leb, le-ltb, leb-true, lt-ltb, ltb-false, ltb-true, not-true}
 use Rattle.std.proofs.lemmas.Bool.Decides.{nat_tests}
-use Rattle.std.specs.List.{AllByRecursion as All}
+use Rattle.std.specs.List.{AllByRecursion}
 use Rattle.plan.specs.declared.rows.Head.{Head}
 use Rattle.plan.specs.Rows.{Plan}
 use Rattle.plan.specs.Rules.{Kept, banks_of, between, legal_heading, places_of}
@@ -21,7 +21,7 @@ use Rattle.cluster.specs.Cycles.{lowest}
 use Rattle.safety.proofs.Lowest.{none_lowest, none_passes}
 use Rattle.safety.proofs.Options.{none_some, pass, passed}
 
-all_at : {A : Type 0} (P : A → Type 0) (xs : List A) (d : A) → All P xs → (b : ℕ) → b < length xs → P (get_or xs b d)
+all_at : {A : Type 0} (P : A → Type 0) (xs : List A) (d : A) → AllByRecursion P xs → (b : ℕ) → b < length xs → P (get_or xs b d)
 all_at P [] d h b l = absurd (omega arith)
 all_at P (x ∷ xs) d h zero l = h.0
 all_at P (x ∷ xs) d h (suc b) l = all_at P xs d h.1 b (omega arith)
@@ -54,7 +54,7 @@ range_all : (table : List Dates) (n : ℕ) → ((i : ℕ) → i < n → runs_in_
 range_all table zero h = refl
 range_all table (suc n) h = and_from (runs_in_range (dated table n)) (all_in_range table n) (h n (omega arith)) (range_all table n (λ i l. h i (omega arith)))
 
-wide_yes : {A : Type 0} (m : Model A) (places : ℕ) (xs : List A) → All (λ x. places ≤ m.width x) xs → all_wide m places xs ≡ true
+wide_yes : {A : Type 0} (m : Model A) (places : ℕ) (xs : List A) → AllByRecursion (λ x. places ≤ m.width x) xs → all_wide m places xs ≡ true
 wide_yes m places [] h = refl
 wide_yes m places (x ∷ xs) h = and_from (leb places (m.width x)) (all_wide m places xs) (le-leb places (m.width x) h.0) (wide_yes m places xs h.1)
 

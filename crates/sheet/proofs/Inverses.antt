@@ -1,7 +1,7 @@
 -- Reading and writing are inverse, by lines and by whole sheets. Assumes nothing.
 use Rattle.std.proofs.Common.{◌≡◌, ℕ, ◌+◌, eqb, List, [], ◌∷◌, ◌++◌, Some, None, Ok, Err, Option, Result, sym, refl, ap, ◌∙◌, subst, arith}
 use Rattle.std.proofs.lemmas.Bool.{cond_both}
-use Rattle.std.specs.List.{flat_map, AllByRecursion as All}
+use Rattle.std.specs.List.{flat_map, AllByRecursion}
 use Rattle.sheet.specs.declared.faults.Fault.{Fault}
 use Rattle.sheet.specs.declared.faults.Flaw.{Flaw}
 use Rattle.sheet.specs.Laws.{Begins, Exact, Inverse}
@@ -27,7 +27,7 @@ joined_lines (b ∷ bs) =
 -- rows that are read without a fault
 
 Faultless : List (List ℕ) → Reading → Type 0
-Faultless ls r = r.fault ≡ None → All Writable r.rows × (flat_map (λ l. l) ls ≡ flat_map written r.rows)
+Faultless ls r = r.fault ≡ None → AllByRecursion Writable r.rows × (flat_map (λ l. l) ls ≡ flat_map written r.rows)
 
 faultless_line : (n : ℕ) (l : List ℕ) (ls : List (List ℕ)) (rest : Reading) → Faultless ls rest → (r : Result Row Flaw) → parsed l ≡ r → Faultless (l ∷ ls) (continued (answer_after n r) rest)
 unfolding Faultless
@@ -42,7 +42,7 @@ unfolding Faultless
 faultless n [] none = (tt, refl)
 faultless n (l ∷ ls) none = faultless_line n l ls (reading (n + 1) ls) (faultless (n + 1) ls) (parsed l) refl none
 
-written_sheet : (n : ℕ) (xs : List Row) → All Writable xs → reading n (lines (flat_map written xs)) ≡ record { rows = xs; fault = None }
+written_sheet : (n : ℕ) (xs : List Row) → AllByRecursion Writable xs → reading n (lines (flat_map written xs)) ≡ record { rows = xs; fault = None }
 written_sheet n [] h = refl
 written_sheet n (x ∷ xs) (w, ws) =
     ap (reading n) (lines_written x (flat_map written xs) w)
@@ -53,11 +53,11 @@ row_answered : (n : ℕ) (r : Result Row Flaw) (x : Row) → answer_after n r �
 row_answered n (Ok y) x e = cc
 row_answered n (Err f) x e = absurd (let z : ◌≡◌ {A = ℕ} 0 1 = cc in omega arith)
 
-read_sheet : (bs : List ℕ) (xs : List Row) → reading 0 (lines bs) ≡ record { rows = xs; fault = None } → All Writable xs × (bs ≡ flat_map written xs)
+read_sheet : (bs : List ℕ) (xs : List Row) → reading 0 (lines bs) ≡ record { rows = xs; fault = None } → AllByRecursion Writable xs × (bs ≡ flat_map written xs)
 unfolding Faultless
 read_sheet bs xs e =
     let (w, f) = faultless 0 (lines bs) (ap (λ r. r.fault) e) in
-    let P : List Row → Type 0 = λ ys. All Writable ys × (bs ≡ flat_map written ys) in
+    let P : List Row → Type 0 = λ ys. AllByRecursion Writable ys × (bs ≡ flat_map written ys) in
     subst P (ap (λ r. r.rows) e) (w, sym (joined_lines bs) ∙ f)
 
 same_row : (x y : Row) → ◌≡◌ {A = Result Row Flaw} (Ok x) (Ok y) → x ≡ y

@@ -9,7 +9,7 @@ use Rattle.std.proofs.lemmas.Bool.{and_parts, both_ways, cases_eq, cond-true, co
 use Rattle.std.proofs.lemmas.Bool.Decides.{nat_tests}
 use Rattle.std.specs.Str.Parse.{digits_value}
 use Rattle.std.specs.Int.{is_in_range}
-use Rattle.std.specs.List.{AllByRecursion as All}
+use Rattle.std.specs.List.{AllByRecursion}
 use Rattle.std.specs.Str.{all_ascii_digits}
 use Rattle.sheet.specs.Columns.{justified, column}
 use Rattle.sheet.specs.Fields.{unpadded, numeral, number, visible, named, name}
@@ -139,7 +139,7 @@ justified_name field bs wide e =
 -- no field has a line feed
 
 abbrev pub Unbroken : List ℕ → Type 0
-Unbroken = All (λ b. b ≡ 10 → ⊥)
+Unbroken = AllByRecursion (λ b. b ≡ 10 → ⊥)
 
 unbroken_by : (test : ℕ → Bool) (all : List ℕ → Bool) → ((c : ℕ) (cs : List ℕ) → all (c ∷ cs) ≡ test c && all cs) → test 10 ≡ false → (bs : List ℕ) → all bs ≡ true → Unbroken bs
 unbroken_by test all step none [] e = tt

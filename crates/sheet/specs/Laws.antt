@@ -1,6 +1,6 @@
 -- Reading and writing are inverse to each other.
 use Rattle.std.specs.Prelude.{◌≡◌, ℕ, List, ◌++◌, Some, None, Ok, Option, Result}
-use Rattle.std.specs.List.{flat_map, AllByRecursion as All}
+use Rattle.std.specs.List.{flat_map, AllByRecursion}
 use Rattle.sheet.specs.declared.faults.Fault.{Fault}
 use Rattle.sheet.specs.Lines.{parsed}
 use Rattle.sheet.specs.Reading.{whole_reading}
@@ -25,4 +25,4 @@ pub record Inverse : Type 0 where
   -- rows that are written alike are the same row
   pub distinct : (x y : Row) → Writable x → Writable y → written x ≡ written y → x ≡ y
   -- a sheet is read as these rows, without a fault, exactly if they can be written and the sheet is their lines one after another
-  pub sheet : (bs : List ℕ) (xs : List Row) → Iff (whole_reading bs ≡ record { rows = xs; fault = None }) (All Writable xs × (bs ≡ flat_map written xs))
+  pub sheet : (bs : List ℕ) (xs : List Row) → Iff (whole_reading bs ≡ record { rows = xs; fault = None }) (AllByRecursion Writable xs × (bs ≡ flat_map written xs))

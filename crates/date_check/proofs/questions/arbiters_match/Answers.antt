@@ -1,6 +1,6 @@
 use Rattle.std.proofs.Common.{◌≡◌, ◌≤◌, ◌&&◌, length, sym, ap, ◌∙◌, subst}
 use Rattle.std.proofs.lemmas.Bool.{eq-eqb}
-use Rattle.std.specs.List.{AllByRecursion as All}
+use Rattle.std.specs.List.{AllByRecursion}
 use Rattle.plan.specs.Plans.{closed}
 use Rattle.plan.specs.Rules.{banks_of, places_of}
 use Rattle.arbiter.specs.Given.{model}
@@ -16,5 +16,5 @@ returns-then-arbiters-head g c =
     let count : length arbiters ≡ banks_of head = c.if-arbiters-head.true ∙ ap banks_of (sym c.head_of-head.ensures) in
     record {
       answer = c.all_are_wide.ensures.answer ∙ ap (λ n. all_wide m n arbiters) places ∙ ap (λ b. b && all_wide m (places_of head) arbiters) (sym (eq-eqb (length arbiters) (banks_of head) count));
-      facts = λ e. (count, subst (λ n. All (λ a. n ≤ m.width a) arbiters) places (c.all_are_wide.ensures.wide e));
+      facts = λ e. (count, subst (λ n. AllByRecursion (λ a. n ≤ m.width a) arbiters) places (c.all_are_wide.ensures.wide e));
     }

@@ -1,7 +1,7 @@
 use Rattle.std.proofs.Common.{◌≡◌, ℕ, ◌<◌, ◌≤◌, List, length, get_or, sym, ap, subst, arith}
 use Rattle.std.proofs.ByRecursion.{All-get_or}
 use Rattle.std.proofs.lemmas.List.{drop_all}
-use Rattle.std.specs.List.{AllByRecursion as All}
+use Rattle.std.specs.List.{AllByRecursion}
 use Rattle.plan.specs.Plans.{closed}
 use Rattle.plan.specs.Rules.{banks_of, places_of}
 use Rattle.plan.specs.declared.closed.ClosedPlan.{ClosedPlan}
@@ -16,7 +16,7 @@ use Rattle.date_check.proofs.worst.count_services.Goals as goal
 below_16 : (plan : ClosedPlan) (bank n : ℕ) → bank < n → n ≡ banks_of (closed plan).head → bank < 16
 below_16 plan bank n l e = omega (arith, few_banks (closed plan).head (kept_of plan).headed)
 
-wide_at : {S : Type 0} (m : Model S) (places bank : ℕ) (arbiters : List S) (a : S) → bank < length arbiters → a ≡ get_or arbiters bank a → All (λ x. places ≤ m.width x) arbiters → places ≤ m.width a
+wide_at : {S : Type 0} (m : Model S) (places bank : ℕ) (arbiters : List S) (a : S) → bank < length arbiters → a ≡ get_or arbiters bank a → AllByRecursion (λ x. places ≤ m.width x) arbiters → places ≤ m.width a
 wide_at m places bank arbiters a l e all = subst (λ x. places ≤ m.width x) (sym e) (All-get_or (λ x. places ≤ m.width x) arbiters bank a l all)
 
 pub bank_services-count-requires : goal.bank_services-count-requires

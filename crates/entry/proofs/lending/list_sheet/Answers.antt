@@ -1,7 +1,7 @@
 -- The text that was made is the one that is put into the memory.
 use Rattle.std.proofs.Common.{vec_items, subst}
 use Rattle.entry.specs.Listings.{Put, put}
-use Rattle.entry.proofs.listing.list_sheet.Goals as goal
+use Rattle.entry.proofs.lending.list_sheet.Goals as goal
 
 pub returns-in-Ok : goal.returns-in-Ok
 returns-in-Ok c =
