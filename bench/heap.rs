@@ -27,6 +27,23 @@ extern "C" fn rattle_alloc(size: usize, _align: usize) -> Tried {
 }
 
 #[unsafe(no_mangle)]
+unsafe extern "C" fn rattle_realloc(p: *mut u8, _kept: usize, size: usize, _align: usize) -> Tried {
+    unsafe {
+        let block = p.sub(FRONT);
+        let layout = Layout::from_size_align(block.cast::<usize>().read(), FRONT).unwrap();
+        let moved = std::alloc::realloc(block, layout, size + FRONT);
+        if moved.is_null() {
+            return Tried { ok: false, p };
+        }
+        moved.cast::<usize>().write(size + FRONT);
+        Tried {
+            ok: true,
+            p: moved.add(FRONT),
+        }
+    }
+}
+
+#[unsafe(no_mangle)]
 unsafe extern "C" fn rattle_dealloc(p: *mut u8) {
     unsafe {
         let block = p.sub(FRONT);

@@ -1,7 +1,7 @@
 // The smallest responses for given releases.
 ghost use Rattle.std.specs.Prelude.{◌≡◌, ℕ, ◌^◌, ◌<◌, length};
 ghost use Rattle.arbiter.specs.Given.{model};
-ghost use Rattle.consistency.specs.Dates.{SmallestResponses, alone as AloneOf};
+ghost use Rattle.consistency.specs.Dates.{SmallestResponses, alone as alone_of};
 ghost use Rattle.analysis.specs.Plans.{system};
 ghost use Rattle.analysis.specs.Workings.{Asked, Rising, Settled, Under, column, planned};
 
@@ -43,7 +43,7 @@ pub(crate) fn smallest_responses<A: Arbiter>(
     releases: &Column,
     alone: &Column,
 ) -> Column
-    requires { (Asked (model A.Arbiter) (planned head tasks.now) arbiters.now) × ((Under (length tasks.now) (2 ^ 44) (column releases.now)) × (((i : ℕ) → i < length tasks.now → column alone.now i ≡ AloneOf (system (model A.Arbiter) (planned head tasks.now) arbiters.now) i))) }
+    requires { (Asked (model A.Arbiter) (planned head tasks.now) arbiters.now) × ((Under (length tasks.now) (2 ^ 44) (column releases.now)) × (((i : ℕ) → i < length tasks.now → column alone.now i ≡ alone_of (system (model A.Arbiter) (planned head tasks.now) arbiters.now) i))) }
     ensures smallest { SmallestResponses (system (model A.Arbiter) (planned head tasks.now) arbiters.now) (column releases.now) (column result) }
     ensures low { Under (length tasks.now) (2 ^ 35) (column result) }
 {

@@ -1,7 +1,7 @@
 // The rounds.
 ghost use Rattle.std.specs.Prelude.{◌≡◌, ℕ, ◌+◌, ◌^◌, ◌<◌, ◌≤◌, true, false, length};
 ghost use Rattle.arbiter.specs.Given.{model};
-ghost use Rattle.consistency.specs.Dates.{Round, Rounds, alone as AloneOf, finish as finish_of};
+ghost use Rattle.consistency.specs.Dates.{Round, Rounds, alone as alone_of, finish as finish_of};
 ghost use Rattle.analysis.specs.Plans.{system};
 ghost use Rattle.analysis.specs.Workings.{Asked, Differs, Under, column, planned};
 
@@ -34,7 +34,7 @@ fn go_round<A: Arbiter>(
     releases: &Column,
     alone: &Column,
 ) -> Renewal
-    requires { (Asked (model A.Arbiter) (planned head tasks.now) arbiters.now) × ((Under (length tasks.now) (2 ^ 44) (column releases.now)) × (((i : ℕ) → i < length tasks.now → column alone.now i ≡ AloneOf (system (model A.Arbiter) (planned head tasks.now) arbiters.now) i))) }
+    requires { (Asked (model A.Arbiter) (planned head tasks.now) arbiters.now) × ((Under (length tasks.now) (2 ^ 44) (column releases.now)) × (((i : ℕ) → i < length tasks.now → column alone.now i ≡ alone_of (system (model A.Arbiter) (planned head tasks.now) arbiters.now) i))) }
     ensures round { Round (system (model A.Arbiter) (planned head tasks.now) arbiters.now) (column releases.now) (column result.responses) (column result.releases) }
     ensures low { Under (length tasks.now) (2 ^ 44) (finish_of (column result.releases) (column result.responses)) }
 {

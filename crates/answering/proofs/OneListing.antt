@@ -12,10 +12,10 @@ use Rattle.loader.specs.Faults.{number_of}
 use Rattle.loader.specs.Rows.{make_in, names_in}
 use Rattle.arbiter.specs.Meaning.{Keeps, Model}
 use Rattle.rings.specs.Rings.{NewRing, ring}
-use Rattle.bostan.specs.Piles.{NewPile, bostan}
+use Rattle.bostan.specs.Piles.{bostan}
 use Rattle.analysis.specs.Plans.{PlansAreDated}
 use Rattle.listing.specs.Listing.{fault}
-use Rattle.answering.specs.Listings.{ListsByMake, ListsLines, ListsMade, OneListing, faulty, planned}
+use Rattle.answering.specs.Listings.{FreshPile, ListsByMake, ListsLines, ListsMade, OneListing, faulty, planned}
 use Rattle.answering.proofs.KeptPlans.{sheet_kept}
 use Rattle.answering.proofs.OneAnswer.{plans_same}
 use Rattle.answering.proofs.OneFault.{faults_same, not_both}
@@ -29,7 +29,7 @@ module _ (rings : PlansAreDated ring) (piles : PlansAreDated bostan) where
   by_make_same : (o : Option Make) (p : Plan) → Kept p → (names : List (List ℕ)) (t u : List ℕ) → ListsByMake o p names t → ListsByMake o p names u → t ≡ u
   by_make_same None p kept names t u x y = x.1 ∙ sym y.1
   by_make_same (Some make.Ring) p kept names t u x y = made_same ring rings (NewRing (places_of p.head)) (rings_keep (places_of p.head)) p kept names t u x y
-  by_make_same (Some make.Bostan) p kept names t u x y = made_same bostan piles NewPile piles_keep p kept names t u x y
+  by_make_same (Some make.Bostan) p kept names t u x y = made_same bostan piles FreshPile piles_keep p kept names t u x y
 
   lines_same : (sheet t u : List ℕ) → ListsLines sheet t → ListsLines sheet u → t ≡ u
   lines_same sheet t u (faulty f p s n e) (faulty g q r k d) =

@@ -11,7 +11,8 @@ use Rattle.arbiter.specs.Fair.{fair_bound}
 use Rattle.arbiter.specs.Meaning.{Keeps, Model}
 use Rattle.rings.specs.Rings.{NewRing, ring}
 use Rattle.rings.specs.declared.ring.Ring.{Ring}
-use Rattle.bostan.specs.Piles.{NewPile, Pile, bostan}
+use Rattle.bostan.specs.Piles.{Pile, bostan}
+use Rattle.answering.specs.Listings.{FreshPile}
 use Rattle.date_check.specs.declared.dates.Dates.{Dates}
 use Rattle.date_check.specs.Keeping.{AllKeep}
 use Rattle.date_check.specs.Sound.{Fits, latency_of, loads, services}
@@ -21,10 +22,10 @@ use Rattle.analysis.specs.Plans.{system}
 pub rings_keep : (n : ℕ) (a b : Ring) → NewRing n a → NewRing n b → Keeps ring a b
 rings_keep n a b x y = record { width = y.width ∙ sym x.width; bound = λ s own xs. ap (λ w. fair_bound w s own xs) (y.width ∙ sym x.width) }
 
-pub piles_keep : (a b : Pile) → NewPile a → NewPile b → Keeps bostan a b
+pub piles_keep : (a b : Pile) → FreshPile a → FreshPile b → Keeps bostan a b
 piles_keep a b x y = record {
-  width = y.width ∙ sym x.width;
-  bound = λ s own xs. rw (x.new_cores.width, x.new_units.width, x.new_receive.width, y.new_cores.width, y.new_units.width, y.new_receive.width);
+  width = y.0.width ∙ sym x.0.width;
+  bound = λ s own xs. rw (x.0.new_cores.width, x.0.new_units.width, x.0.new_receive.width, y.0.new_cores.width, y.0.new_units.width, y.0.new_receive.width);
 }
 
 module _ {S : Type 0} (m : Model S) where

@@ -12,7 +12,7 @@ use Rattle.loader.specs.Rows.{all_taken, make_in, names_in}
 use Rattle.loader.specs.declared.faults.LoadFault.{LoadFault}
 use Rattle.arbiter.specs.Meaning.{Model}
 use Rattle.rings.specs.Rings.{NewRing, ring}
-use Rattle.bostan.specs.Piles.{NewPile, bostan}
+use Rattle.bostan.specs.Piles.{IsUnpicked, NewPile, Pile, bostan}
 use Rattle.date_check.specs.declared.dates.Dates.{Dates}
 use Rattle.analysis.specs.Answers as analysis
 use Rattle.analysis.specs.declared.refusal.Refusal.{Refusal}
@@ -64,11 +64,15 @@ pub record ListsMade {S : Type 0} (m : Model S) (New : S → Type 0) (p : Plan) 
   pub new : OnePerBank New p arbiters
   pub listed : ListsPlan m p arbiters names text
 
+-- A new pile in layers that have not picked from a side yet.
+abbrev pub FreshPile : Pile → Type 0
+FreshPile a = NewPile a × IsUnpicked a
+
 -- By the make: rings over all places, or Bostan piles. Without a head there is no make, and there is no task.
 abbrev pub ListsByMake : Option Make → Plan → List (List ℕ) → List ℕ → Type 0
 ListsByMake None p names text = (length p.rows ≡ 0) × (text ≡ fault 9 0 0)
 ListsByMake (Some make.Ring) p names text = ListsMade ring (NewRing (places_of p.head)) p names text
-ListsByMake (Some make.Bostan) p names text = ListsMade bostan NewPile p names text
+ListsByMake (Some make.Bostan) p names text = ListsMade bostan FreshPile p names text
 
 -- Every line of the sheet can be read and every row is taken: together they make this plan.
 pub record Makes (sheet : List ℕ) (p : Plan) : Type 0 where

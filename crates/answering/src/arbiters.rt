@@ -2,7 +2,7 @@
 ghost use Rattle.std.specs.Prelude.{◌≡◌, ◌≤◌, length, IfOk};
 ghost use Rattle.std.specs.List.{AllByRecursion};
 ghost use Rattle.rings.specs.Rings.{NewRing};
-ghost use Rattle.bostan.specs.Piles.{NewPile};
+ghost use Rattle.answering.specs.Listings.{FreshPile};
 
 use crate::memory::OutOfMemory;
 use bostan::{Pile, pile};
@@ -22,7 +22,7 @@ pub(crate) fn new_rings(heap: Global, places: usize, banks: usize) -> Result<Vec
 }
 
 pub(crate) fn new_piles(heap: Global, banks: usize) -> Result<Vec<Pile>, OutOfMemory>
-    ensures { IfOk result (λ v. (length v.items ≡ banks) × AllByRecursion NewPile v.items) }
+    ensures { IfOk result (λ v. (length v.items ≡ banks) × AllByRecursion FreshPile v.items) }
 {
     let mut piles = Vec::new(heap);
     for _ in 0..banks {

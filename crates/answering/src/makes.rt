@@ -3,8 +3,8 @@ ghost use Rattle.std.specs.Prelude.{◌≡◌, ◌≤◌, map, length, IfOk, Non
 ghost use Rattle.plan.specs.Plans.{closed};
 ghost use Rattle.plan.specs.Rules.{banks_of, places_of};
 ghost use Rattle.rings.specs.Rings.{NewRing, ring};
-ghost use Rattle.bostan.specs.Piles.{NewPile, bostan as bostan_pile};
-ghost use Rattle.answering.specs.Listings.{ListsByMake, ListsMade};
+ghost use Rattle.bostan.specs.Piles.{bostan as bostan_pile};
+ghost use Rattle.answering.specs.Listings.{FreshPile, ListsByMake, ListsMade};
 
 use crate::arbiters::{new_piles, new_rings};
 use crate::dating::list_plan;
@@ -38,7 +38,7 @@ fn list_with_rings(heap: Global, plan: &ClosedPlan, names: &[&[u8]]) -> Result<V
 
 fn list_with_piles(heap: Global, plan: &ClosedPlan, names: &[&[u8]]) -> Result<Vec<u8>, OutOfMemory>
     requires { length names.now ≡ length (closed plan.now).rows }
-    ensures { IfOk result (λ text. ListsMade bostan_pile NewPile (closed plan.now) (map (λ n. n.now) names.now) text.items) }
+    ensures { IfOk result (λ text. ListsMade bostan_pile FreshPile (closed plan.now) (map (λ n. n.now) names.now) text.items) }
 {
     let (_, banks) = extent(plan);
     let piles = new_piles(heap, banks)?;

@@ -2,6 +2,6 @@
 use Rattle.arbiter.specs.declared.Arbiter.{Ghosts}
 use Rattle.arbiter.specs.Meaning.{Model, meaning}
 
--- Under a bound `A: Arbiter` it is `model A-as-Arbiter`.
+-- Under a bound `A: Arbiter` it is `model A.Arbiter`.
 abbrev pub model : {A : Type 0} → Ghosts A → Model A
 model g = meaning g.waiting g.last g.moves

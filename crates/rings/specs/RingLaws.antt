@@ -8,6 +8,7 @@ use Rattle.arbiter.specs.Meaning.{Post, Pick}
 use Rattle.arbiter.specs.Laws.{Steps, Lawful}
 use Rattle.arbiter.proofs.Acceptance.{acceptance}
 use Rattle.arbiter.proofs.FairBounds.{fair_without_own, fair_at_most_all, fair_monotone}
+use Rattle.rings.specs.Kept.{Quiet}
 use Rattle.rings.specs.Order.{rank}
 use Rattle.rings.specs.declared.ring.Ring.{Ring}
 use Rattle.rings.specs.Rings.{ring, ring_waiting, Posted, Picked}
@@ -58,6 +59,9 @@ least (suc k) f r = go (f k) refl (least k f r)
 known_picked : (n p : ℕ) → p < n → (s : ℕ) → Some p ≡ Some s → s < n
 known_picked n p h s e = let same : s ≡ p = cc in omega arith
 
+still_quiet : (a : Ring) (p : ℕ) → p < a.width → Quiet (slice_set a.waiting p false) a.width
+still_quiet a p h o k = let ne : o ≢ p = omega arith in rw get_or-set_other (a.quiet o k)
+
 -- The ring after a pick of p.
 abbrev after : (a : Ring) (p : ℕ) → p < a.width → Ring
 after a p h = record {
@@ -66,7 +70,7 @@ after a p h = record {
   width = a.width;
   least = a.least;
   most = a.most;
-  quiet = λ o k. let ne : o ≢ p = omega arith in rw get_or-set_other (a.quiet o k);
+  quiet = still_quiet a p h;
   known = λ s e. known_picked a.width p h s e;
   full = length-set a.waiting p false ∙ a.full;
 }
