@@ -24,7 +24,7 @@ D9999999999\n",
         )
     );
     assert!(rt;
-        matches!(sheet.next(), Ok(Some(Line::Task { place: 0, cycles: 5, earliest: 7, name })) if name == b"scan")
+        matches!(sheet.next(), Ok(Some(Line::Task { place: 0, cycles: 5, earliest: 7, name })) if name == b"scan".as_slice())
     );
     assert!(rt; matches!(sheet.next(), Ok(Some(Line::Demand { bank: 1, count: 30 }))));
     assert!(rt;
