@@ -44,6 +44,9 @@ fn run(rt: &HostRuntime) -> anyhow::Result<()> {
     let heap = rt.alloc();
     let wanted = reading::wanted_name(rt)?;
     let bytes = reading::sheet_bytes(rt)?;
+    if bytes.len() > reading::LIMIT {
+        return Err(anyhow!("the sheet is too long"));
+    }
     let mut plan = OpenPlan::new(heap);
     let Ok(loaded) = load(heap, &mut plan, bytes.as_slice()) else {
         return Err(anyhow!("the sheet is refused: the program dates tells where"));
