@@ -1,31 +1,33 @@
 -- From the last round to the answer.
 -- Assumes nothing.
-use Rattle.std.proofs.Common.{◌≡◌, ℕ, ◌<◌, ◌≤◌, true, eqb, List, length, IfOk, Ok, Err, Result, sym, ap, subst, arith}
-use Rattle.std.proofs.lemmas.Bool.{and_parts, eqb-true}
-use Rattle.plan.specs.Rows.{Plan}
-use Rattle.plan.specs.Rules.{Kept, banks_of, places_of}
+use Rattle.std.proofs.Common.{◌≡◌, ℕ, ◌-◌, ◌<◌, ◌≤◌, ◌++◌, List, length, drop, take, IfOk, Ok, Err, Result, refl, sym, ap, ◌∙◌, subst, arith}
+use Rattle.std.proofs.lemmas.List.{get_or-append_right, get_or-drop, get_or_append_left, length-append, length-drop, length-take-le, take-append-drop}
+use Rattle.plan.specs.Rules.{period_of}
+use Rattle.arbiter.specs.declared.Arbiter.{Ghosts}
+use Rattle.arbiter.specs.Given.{model}
 use Rattle.arbiter.specs.Laws as arbiters_keep
-use Rattle.arbiter.specs.Meaning.{Model}
 use Rattle.date_check.specs.declared.dates.Dates.{Dates}
-use Rattle.date_check.specs.Sound.{Fits, Sound, period_of}
-use Rattle.date_check.specs.Verdict.{all_wide, arbiters_fit}
-use Rattle.date_check.proofs.Passing.{wide_all}
+use Rattle.date_check.specs.Sound.{Fits, Sound, dated}
 use Rattle.consistency.specs.Dates.{Rounds, Same, Table, finish}
-use Rattle.consistency.specs.System.{Lawful, System}
+use Rattle.consistency.specs.System as systems
 use Rattle.consistency.proofs.Consistent.{unmoved_consistent}
 use Rattle.consistency.proofs.Releases.{released_same}
 use Rattle.consistency.proofs.Responses.{responses_same}
 use Rattle.consistency.proofs.Rounds.{count_limit, reached_same}
 use Rattle.analysis.specs.declared.refusal.Refusal.{Refusal}
 use Rattle.analysis.specs.declared.refusal.Refusal.TheVariants as refused
+use Rattle.analysis.specs.declared.system.System.{System}
 use Rattle.analysis.specs.declared.tables.Found.{Found}
+use Rattle.analysis.specs.declared.tables.Windows.{Windows}
 use Rattle.analysis.specs.Answers.{Answer, Granted, LateRow}
-use Rattle.analysis.specs.Plans.{releases, responses, system}
-use Rattle.analysis.specs.Workings.{Asked, Decided, LowestLate, Written, column}
-use Rattle.analysis.proofs.Systems.{consistent_sound, lawful}
+use Rattle.analysis.specs.Plans.{releases, responses}
+use Rattle.analysis.specs.Systems.{plan_in, system_of}
+use Rattle.analysis.specs.Workings.{Decided, Filled, FoundBy, LowestLate, finish_in, release_in, response_in}
+use Rattle.analysis.proofs.Systems.{consistent_sound}
+use Rattle.analysis.proofs.Times.{kept, lawful_system, one_per_bank, wide}
 
 -- Only rows of tasks count.
-rounds_same : (y : System) → Lawful y → {count : ℕ} {rel res rel' res' : Table} → Same y rel rel' → Same y res res' → Rounds y count rel res → Rounds y count rel' res'
+rounds_same : (y : systems.System) → systems.Lawful y → {count : ℕ} {rel res rel' res' : Table} → Same y rel rel' → Same y res res' → Rounds y count rel res → Rounds y count rel' res'
 rounds_same y l {rel = rel} {res = res} {rel' = rel'} {res' = res'} p q r = record {
   before = r.before;
   counted = r.counted;
@@ -33,55 +35,63 @@ rounds_same y l {rel = rel} {res = res} {rel' = rel'} {res' = res'} p q r = reco
   last = record { responses = responses_same y l rel res rel' res' p q r.last.responses; released = released_same y rel res rel' res' p q r.last.released };
 }
 
-module _ {S : Type 0} (m : Model S) (laws : arbiters_keep.Lawful m) (p : Plan) (arbiters : List S) where
-  -- The questions about plan and arbiters, each with a yes.
-  pub fitting : Kept p → arbiters_fit m p arbiters ≡ true → Asked m p arbiters
-  fitting kept yes_fit =
-      let parts = and_parts (eqb (length arbiters) (banks_of p.head)) (all_wide m (places_of p.head) arbiters) yes_fit in
-      record { kept = kept; one_per_bank = eqb-true (length arbiters) (banks_of p.head) parts.0; wide = wide_all m (places_of p.head) arbiters parts.1 }
+-- The rows of tasks were written, and the others stayed.
+module _ (w : Windows) (old front : List Dates) (n : ℕ) (rows : n ≤ length old) (long : length front ≡ n) where
+  new_length : length (front ++ drop n old) ≡ length old
+  new_length = omega (arith, length-append front (drop n old), length-drop n old)
 
-  module _ (asked : Asked m p arbiters) where
-    pub fits_table : 1 ≤ length p.rows → (table : List Dates) → length p.rows ≤ length table → Fits m p arbiters table
-    fits_table some table rows = record { some = some; one_per_bank = asked.one_per_bank; wide = asked.wide; row_per_task = rows }
+  new_filled : Filled w front → (i : ℕ) → i < n → dated (front ++ drop n old) i ≡ record { release = release_in w i; response = response_in w i }
+  new_filled filled i h = get_or_append_left front (drop n old) _ i (omega arith) ∙ filled i (omega arith)
 
-    module _ {count : ℕ} {rel res : Table} (found : Rounds (system m p arbiters) count rel res) where
-      pub late_row : (i f : ℕ) → LowestLate (length p.rows) (period_of p.head) (finish rel res) i → f ≡ finish rel res i → LateRow m p arbiters i f
-      late_row i f low e = record { rel = rel; res = res; consistent = unmoved_consistent found.last; task = low.task; ends = e; late = omega (arith, low.late); lowest = low.lowest }
+  new_others : (i : ℕ) → n ≤ i → dated (front ++ drop n old) i ≡ dated old i
+  new_others i h = get_or-append_right front (drop n old) n i _ long h ∙ get_or-drop n old (i - n) _ ∙ ap (dated old) (omega arith)
 
-      module _ (some : 1 ≤ length p.rows) (old new : List Dates) (written : Written (length p.rows) rel res old new) (fits : (i : ℕ) → i < length p.rows → finish rel res i ≤ period_of p.head) where
-        read_release : Same (system m p arbiters) rel (releases new)
-        read_release i h = sym (ap (λ d. d.release) (written.filled i h))
+module _ {S : Type 0} {d : Ghosts S} (s : System S d) (laws : arbiters_keep.Lawful (model d)) (found : Found) (rounds : FoundBy (system_of s) found) (some : 1 ≤ length (plan_in s).rows) (old front : List Dates) (n : ℕ) (all : n ≡ length (plan_in s).rows) (rows : n ≤ length old) (long : length front ≡ n) where
+  abbrev new : List Dates
+  new = front ++ drop n old
 
-        read_response : Same (system m p arbiters) res (responses new)
-        read_response i h = sym (ap (λ d. d.response) (written.filled i h))
+  fits_table : (table : List Dates) → length table ≡ length old → Fits (model d) (plan_in s) s.arbiters.now table
+  fits_table table e = record { some = some; one_per_bank = one_per_bank s; wide = wide s; row_per_task = omega arith }
 
-        counted_table : Rounds (system m p arbiters) count (releases new) (responses new)
-        counted_table = rounds_same (system m p arbiters) (lawful m laws p asked.kept arbiters asked.wide) read_release read_response found
+  late_row : (i f : ℕ) → LowestLate n (period_of (plan_in s).head) (finish_in found.windows) i → f ≡ finish_in found.windows i → LateRow (model d) (plan_in s) s.arbiters.now i f
+  late_row i f low e = record { rel = release_in found.windows; res = response_in found.windows; consistent = unmoved_consistent rounds.last; task = omega (arith, low.task); ends = e; late = omega (arith, low.late); lowest = low.lowest }
 
-        in_time : (i : ℕ) → i < length p.rows → finish (releases new) (responses new) i ≤ period_of p.head
-        in_time i h = omega (arith, read_release i h, read_response i h, fits i h)
+  module _ (filled : Filled found.windows front) (fits : (i : ℕ) → i < n → finish_in found.windows i ≤ period_of (plan_in s).head) where
+    read_release : Same (system_of s) (release_in found.windows) (releases new)
+    read_release i h = sym (ap (λ d. d.release) (new_filled found.windows old front n rows long filled i (omega arith)))
 
-        pub granted : Granted m p arbiters old new count
-        granted = record {
-          consistent = unmoved_consistent counted_table.last;
-          in_period = in_time;
-          counted = counted_table;
-          few = count_limit (system m p arbiters) (lawful m laws p asked.kept arbiters asked.wide) some counted_table;
-          same_length = written.same_length;
-          others = written.others;
-        }
+    read_response : Same (system_of s) (response_in found.windows) (responses new)
+    read_response i h = sym (ap (λ d. d.response) (new_filled found.windows old front n rows long filled i (omega arith)))
 
-        pub granted_sound : Sound m p arbiters new
-        granted_sound = consistent_sound m laws p asked.kept arbiters asked.wide new (unmoved_consistent counted_table.last) in_time
+    counted_table : Rounds (system_of s) found.rounds (releases new) (responses new)
+    counted_table = rounds_same (system_of s) (lawful_system s laws) read_release read_response rounds
 
-    -- What is decided of the dates that were found is the answer, and what is granted is sound.
-    module _ (some : 1 ≤ length p.rows) (found : Found) (rounds : Rounds (system m p arbiters) found.rounds (column found.releases) (column found.responses)) (old new : List Dates) (rows : length p.rows ≤ length old) where
-      pub concluded : (r : Result ℕ Refusal) → Decided (length p.rows) (period_of p.head) found old new r → Answer m p arbiters old new r × IfOk r (λ _. Fits m p arbiters new × Sound m p arbiters new)
-      concluded (Ok count) (e, fits, written) = (
-        (fits_table some old rows, subst (Granted m p arbiters old new) (sym e) (granted rounds some old new written fits)),
-        (fits_table some new (omega (arith, written.same_length)), granted_sound rounds some old new written fits),
+    in_time : (i : ℕ) → i < length (plan_in s).rows → finish (releases new) (responses new) i ≤ period_of (plan_in s).head
+    in_time i h = omega (arith, read_release i h, read_response i h, fits i (omega arith))
+
+    granted : Granted (model d) (plan_in s) s.arbiters.now old new found.rounds
+    granted = record {
+      consistent = unmoved_consistent counted_table.last;
+      in_period = in_time;
+      counted = counted_table;
+      few = count_limit (system_of s) (lawful_system s laws) some counted_table;
+      same_length = new_length found.windows old front n rows long;
+      others = λ i h. new_others found.windows old front n rows long i (omega arith);
+    }
+
+    granted_sound : Sound (model d) (plan_in s) s.arbiters.now new
+    granted_sound = consistent_sound (model d) laws (plan_in s) (kept s) s.arbiters.now (wide s) new (unmoved_consistent counted_table.last) in_time
+
+  -- What is decided of the dates that were found is the answer, and what is granted is sound.
+  pub concluded : (r : Result ℕ Refusal) → Decided (period_of (plan_in s).head) found (take n old) front r → Answer (model d) (plan_in s) s.arbiters.now old new r × IfOk r (λ _. Fits (model d) (plan_in s) s.arbiters.now new × Sound (model d) (plan_in s) s.arbiters.now new)
+  concluded (Ok count) (e, fits, filled) =
+      let in_rows : (i : ℕ) → i < n → finish_in found.windows i ≤ period_of (plan_in s).head = λ i h. fits i (omega (arith, length-take-le n old rows)) in (
+        (fits_table old refl, subst (Granted (model d) (plan_in s) s.arbiters.now old new) (sym e) (granted filled in_rows)),
+        (fits_table new (new_length found.windows old front n rows long), granted_sound filled in_rows),
       )
-      concluded (Err (refused.Late i f)) (low, e, same) = ((fits_table some old rows, late_row rounds i f low e, same), tt)
-      concluded (Err refused.NoTask) z = absurd z
-      concluded (Err refused.Arbiters) z = absurd z
-      concluded (Err refused.Table) z = absurd z
+  concluded (Err (refused.Late i f)) (low, e, same) =
+      let first : LowestLate n (period_of (plan_in s).head) (finish_in found.windows) i = subst (λ k. LowestLate k (period_of (plan_in s).head) (finish_in found.windows) i) (length-take-le n old rows) low in
+      ((fits_table old refl, late_row i f first e, ap (λ xs. xs ++ drop n old) same ∙ take-append-drop n old), tt)
+  concluded (Err refused.NoTask) z = absurd z
+  concluded (Err refused.Arbiters) z = absurd z
+  concluded (Err refused.Table) z = absurd z

@@ -1,5 +1,4 @@
 pub mod Systems
-pub mod TaskRows
 pub mod Marks
 pub mod Renewing
 pub mod Raising

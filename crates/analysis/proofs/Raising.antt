@@ -1,6 +1,6 @@
 -- Responses raised from below, in the order of release.
 -- Assumes nothing.
-use Rattle.std.proofs.Common.{◌≡◌, ℕ, ◌+◌, ◌^◌, ◌<◌, ◌≤◌, Bool, true, false, not, ◌&&◌, eqb, ltb, ◌≢◌, List, length, set, sym, refl, ap, ◌∙◌, subst, inl, inr, arith}
+use Rattle.std.proofs.Common.{◌≡◌, ℕ, ◌+◌, ◌<◌, ◌≤◌, Bool, true, false, not, ◌&&◌, eqb, ltb, ◌≢◌, List, length, set, sym, refl, ap, ◌∙◌, subst, inl, inr, arith}
 use Rattle.std.proofs.lemmas.List.{get_or-set_other, get_or-set_same}
 use Rattle.std.proofs.lemmas.Bool.{and_from, and_parts, both_ways, cases_eq, eq-eqb, lt-ltb, ltb-true, not_from_false, not_from_true, true≢false}
 use Rattle.plan.specs.Rows.{Row, row}
@@ -9,7 +9,7 @@ use Rattle.consistency.specs.Dates.{Same, SmallestResponses, Table, alone, finis
 use Rattle.consistency.proofs.Counting.{count, count_more}
 use Rattle.consistency.proofs.Responses.{alone_below, raised_below, smallest_from_below}
 use Rattle.consistency.proofs.Worst.{worst_earlier, worst_positive}
-use Rattle.analysis.specs.Workings.{FirstOpen, Loaded, MetAll, MetInPart, Rising, Settled, Under, marked, meet}
+use Rattle.analysis.specs.Workings.{FirstOpen, Loaded, MetAll, MetInPart, Rising, Settled, marked, meet}
 use Rattle.analysis.specs.declared.tables.Meetings.{Meetings}
 
 -- The same tasks that are met make the same work.
@@ -24,24 +24,19 @@ pub record InOrder (y : System) (rel res : Table) (marks : List Bool) : Type 0 w
 
 module _ (y : System) (l : Lawful y) (rel : Table) where
   -- The times without meetings are a start,
-  pub rising_alone : (res : Table) → Same y res (alone y) → Under y.tasks (2 ^ 35) res → Rising y rel res
-  rising_alone res same low = record {
+  pub rising_alone : (res : Table) → Same y res (alone y) → Rising y rel res
+  rising_alone res same = record {
     below = λ best g i h. omega (arith, same i h, alone_below y l rel best g i h);
     positive = λ k h. omega (arith, same k h, l.work_positive k h (λ _. false));
-    low = low;
   }
 
   -- and a response may be raised to what its task takes at worst.
-  pub rising_raised : (res new : Table) (i : ℕ) → i < y.tasks → Rising y rel res → new i ≡ worst y rel res i (res i) → ((k : ℕ) → k ≢ i → new k ≡ res k) → new i < 2 ^ 35 → Rising y rel new
-  rising_raised res new i h r here others short = record {
+  pub rising_raised : (res new : Table) (i : ℕ) → i < y.tasks → Rising y rel res → new i ≡ worst y rel res i (res i) → ((k : ℕ) → k ≢ i → new k ≡ res k) → Rising y rel new
+  rising_raised res new i h r here others = record {
     below = raised_below y l rel res new i h r.below here others;
     positive = λ k j. elim (cases_eq k i) [
       | inl e ↦ omega (arith, ap new e, worst_positive y l rel res i (res i) h)
       | inr d ↦ omega (arith, others k d, r.positive k j)
-    ];
-    low = λ k j. elim (cases_eq k i) [
-      | inl e ↦ omega (arith, ap new e)
-      | inr d ↦ omega (arith, others k d, r.low k j)
     ];
   }
 

@@ -1,41 +1,31 @@
 -- Releases by the rule, row by row, with the finish of the task before at each place at hand.
 -- Assumes nothing.
-use Rattle.std.proofs.Common.{◌≡◌, ℕ, ◌+◌, ◌*◌, ◌^◌, ◌<◌, ◌≤◌, max, true, cond, eqb, ◌≢◌, List, length, get_or, set, IfSome, Some, None, Option, sym, refl, ap, ◌∙◌, subst, inl, inr, ⊎_elim, add-one, arith, MatchOption}
+use Rattle.std.proofs.Common.{◌≡◌, ℕ, ◌+◌, ◌*◌, ◌^◌, ◌<◌, ◌≤◌, max, true, cond, eqb, ◌≢◌, List, [], ◌∷◌, fold, length, get_or, set, IfSome, Some, None, Option, sym, refl, ap, ◌∙◌, subst, inl, inr, ⊎_elim, add-one, arith, MatchOption}
 use Rattle.std.proofs.lemmas.List.{get_or-set_other, get_or-set_same, length-set}
 use Rattle.std.proofs.lemmas.Bool.{cases_eq, cond_both, eq-eqb, eqb-true, eqb-false, or_cases, or_left, or_right}
 use Rattle.plan.specs.Rows.{Plan, Row, row}
 use Rattle.plan.specs.Rules.{Kept, member}
 use Rattle.plan.specs.Waits.{holds, latest_at, previous_of, waits_for}
-use Rattle.date_check.proofs.Finishing.{latest_earlier, member_at, member_every}
+use Rattle.date_check.proofs.Finishing.{latest_earlier}
 use Rattle.date_check.proofs.Reading.{few_places}
 use Rattle.consistency.specs.Dates.{Table, finish, latest}
 use Rattle.consistency.proofs.Latest.{latest_first, latest_least, latest_marked, latest_same}
 use Rattle.analysis.specs.Workings.{LatestOf}
 
--- The first n entries of a list.
-abbrev pub Among : List ℕ → ℕ → ℕ → Type 0
-Among xs n k = (j : ℕ) × (j < n) × (get_or xs j 0 ≡ k)
-
-pub latest_more : (xs : List ℕ) (first n : ℕ) (dates : ℕ → ℕ) (r : ℕ) → LatestOf first (Among xs n) dates r → LatestOf first (Among xs (n + 1)) dates (max r (dates (get_or xs n 0)))
-latest_more xs first n dates r h = record {
-  not_before = omega (arith, h.not_before);
-  after_each = λ k w. elim (cases_eq w.0 n) [
-    | inl e ↦ omega (arith, ap dates (sym w.2 ∙ ap (λ j. get_or xs j 0) e))
-    | inr d ↦ omega (arith, h.after_each k (w.0, omega (arith, w.1), w.2))
-  ];
-  least = λ u b each. omega (arith, h.least u b (λ k w. each k (w.0, omega (arith, w.1), w.2)), each (get_or xs n 0) (n, omega arith, refl));
-}
-
-pub latest_members : (xs : List ℕ) (first n : ℕ) (dates : ℕ → ℕ) (r : ℕ) → n ≡ length xs → LatestOf first (Among xs n) dates r → LatestOf first (λ k. member k xs ≡ true) dates r
-latest_members xs first n dates r all h = record {
-  not_before = h.not_before;
-  after_each = member_every (λ k. dates k ≤ r) xs (λ j l. h.after_each (get_or xs j 0) (j, omega arith, refl));
-  least = λ u b each. h.least u b (λ k w. each k (subst (λ x. member x xs ≡ true) w.2 (member_at xs w.0 (omega (arith, w.1)))));
-}
+-- The fold of the dates of the rows in a list is the latest of them.
+pub latest_folded : (dates : ℕ → ℕ) (xs : List ℕ) (first : ℕ) → LatestOf first (λ k. member k xs ≡ true) dates (fold (λ latest k. max latest (dates k)) first xs)
+latest_folded dates [] first = record { not_before = omega arith; after_each = λ k m. let z : ◌≡◌ {A = ℕ} 0 1 = cc in absurd (omega arith); least = λ u b each. b }
+latest_folded dates (x ∷ xs) first =
+    let h = latest_folded dates xs (max first (dates x)) in
+    record {
+      not_before = omega (arith, h.not_before);
+      after_each = λ k m. ⊎_elim (λ e. omega (arith, h.not_before, ap dates (eqb-true x k e))) (λ e. h.after_each k e) (or_cases (eqb x k) (member k xs) m);
+      least = λ u b each. h.least u (omega (arith, each x (or_left (eqb x x) (member x xs) (eq-eqb x x refl)))) (λ k m. each k (or_right (eqb x k) (member k xs) m));
+    }
 
 -- The same of what was read.
-pub latest_read : (first first' : ℕ) (xs xs' : List ℕ) (dates : ℕ → ℕ) (r : ℕ) → first ≡ first' → xs ≡ xs' → LatestOf first (λ k. member k xs ≡ true) dates r → LatestOf first' (λ k. member k xs' ≡ true) dates r
-latest_read first first' xs xs' dates r e f h = subst (λ n. LatestOf n (λ k. member k xs' ≡ true) dates r) e (subst (λ ys. LatestOf first (λ k. member k ys ≡ true) dates r) f h)
+pub latest_read : (dates : ℕ → ℕ) (xs ys : List ℕ) (first n r : ℕ) → n ≡ first → xs ≡ ys → r ≡ fold (λ latest k. max latest (dates k)) n xs → LatestOf first (λ k. member k ys ≡ true) dates r
+latest_read dates xs ys first n r e f g = subst (LatestOf first (λ k. member k ys ≡ true) dates) (sym (g ∙ ap (λ m. fold (λ latest k. max latest (dates k)) m xs) e ∙ ap (fold (λ latest k. max latest (dates k)) first) f)) (latest_folded dates ys first)
 
 -- The finish of a row, or 0 if there is none.
 abbrev pub Ended : Table → Option ℕ → ℕ → Type 0

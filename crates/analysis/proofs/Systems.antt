@@ -3,13 +3,13 @@
 use Rattle.std.proofs.Common.{◌≡◌, ℕ, ◌+◌, ◌<◌, ◌≤◌, Bool, true, false, cond, ◌&&◌, eqb, List, [], ◌∷◌, length, get_or, refl, mul-le-mul_left, arith}
 use Rattle.std.specs.List.{AllByRecursion}
 use Rattle.plan.specs.Rows.{Plan, accesses, row}
-use Rattle.plan.specs.Rules.{Kept, places_of}
+use Rattle.plan.specs.Rules.{Kept, places_of, latency_of, period_of}
 use Rattle.plan.proofs.Waiting.{waits_below}
 use Rattle.arbiter.specs.Laws as arbiters_keep
 use Rattle.arbiter.specs.Meaning.{Model}
 use Rattle.arbiter.proofs.Sums.{sum_below_le}
 use Rattle.date_check.specs.declared.dates.Dates.{Dates}
-use Rattle.date_check.specs.Sound.{Sound, dated, finish, latency_of, loads, period_of, services, share}
+use Rattle.date_check.specs.Sound.{Sound, dated, finish, loads, services, share}
 use Rattle.date_check.proofs.Counting.{loads_at}
 use Rattle.date_check.proofs.Limits.{bound_accepted}
 use Rattle.consistency.specs.System as systems

@@ -1,9 +1,10 @@
 -- What the analysis answers, and what it leaves in the table.
 use Rattle.std.specs.Prelude.{◌≡◌, ℕ, ◌-◌, ◌*◌, ◌<◌, ◌≤◌, true, false, List, length, Ok, Err, Result}
 use Rattle.plan.specs.Rows.{Plan}
+use Rattle.plan.specs.Rules.{period_of}
 use Rattle.arbiter.specs.Meaning.{Model}
 use Rattle.date_check.specs.declared.dates.Dates.{Dates}
-use Rattle.date_check.specs.Sound.{Fits, dated, period_of}
+use Rattle.date_check.specs.Sound.{Fits, dated}
 use Rattle.date_check.specs.Verdict.{arbiters_fit}
 use Rattle.consistency.specs.Dates.{Table, Consistent, Rounds, finish}
 use Rattle.analysis.specs.declared.refusal.Refusal.{Refusal}

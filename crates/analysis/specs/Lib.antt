@@ -1,3 +1,4 @@
 pub mod Plans
 pub mod Answers
 pub mod Workings
+pub mod Systems

@@ -2,11 +2,11 @@
 use Rattle.std.specs.Prelude.{ℕ, ◌<◌, ◌≤◌, not, List, length, ◌==◌}
 use Rattle.std.specs.List.{AllByRecursion}
 use Rattle.plan.specs.Rows.{Plan, row}
-use Rattle.plan.specs.Rules.{Kept, places_of}
+use Rattle.plan.specs.Rules.{Kept, places_of, period_of}
 use Rattle.plan.specs.Waits.{waits_for}
 use Rattle.arbiter.specs.Meaning.{Model}
 use Rattle.date_check.specs.declared.dates.Dates.{Dates}
-use Rattle.date_check.specs.Sound.{Sound, dated, finish, period_of, work}
+use Rattle.date_check.specs.Sound.{Sound, dated, finish, work}
 use Rattle.consistency.specs.System.{System}
 use Rattle.consistency.specs.Dates.{Consistent}
 use Rattle.consistency.specs.Theorem.{Determined, Ending}

@@ -1,48 +1,31 @@
 -- What the working tables of the analysis hold, step by step.
-use Rattle.std.specs.Prelude.{◌≡◌, ℕ, ◌+◌, ◌^◌, ◌<◌, ◌≤◌, Bool, true, false, not, ◌&&◌, ◌≢◌, List, [], length, Some, Ok, Err, Option, Result, MatchOption, ◌==◌, nat_lt, slice_index, slice_index_or}
-use Rattle.std.specs.List.{AllByRecursion}
-use Rattle.plan.specs.declared.rows.Head.{Head}
-use Rattle.plan.specs.declared.rows.Task.{Task}
-use Rattle.plan.specs.Rows.{Plan, Row, plan_of, row}
-use Rattle.plan.specs.Rules.{Kept, banks_of, places_of}
+use Rattle.std.specs.Prelude.{◌≡◌, ℕ, ◌+◌, ◌<◌, ◌≤◌, Bool, true, false, not, ◌&&◌, ◌≢◌, List, [], length, Ok, Err, Option, Result, MatchOption, ◌==◌, nat_lt, slice_index, slice_index_or}
+use Rattle.plan.specs.Rows.{Row, row}
 use Rattle.plan.specs.Waits.{waits_for}
-use Rattle.arbiter.specs.Meaning.{Model}
 use Rattle.date_check.specs.declared.dates.Dates.{Dates}
 use Rattle.date_check.specs.Sound.{dated, loads}
-use Rattle.consistency.specs.Dates.{BelowSmallest, Table, finish, latest, worst}
+use Rattle.consistency.specs.Dates.{BelowSmallest, Rounds, Table, finish, latest, worst}
 use Rattle.consistency.specs.System.{System}
-use Rattle.analysis.specs.declared.tables.Column.{Column}
 use Rattle.analysis.specs.declared.refusal.Refusal.{Refusal}
 use Rattle.analysis.specs.declared.refusal.Refusal.TheVariants as refused
+use Rattle.analysis.specs.declared.tables.Column.{Column}
 use Rattle.analysis.specs.declared.tables.Found.{Found}
 use Rattle.analysis.specs.declared.tables.Meetings.{Meetings}
-
--- A plan with a head.
-abbrev pub planned : Head → List Task → Plan
-planned head tasks = plan_of (Some head) tasks
-
--- The tasks of a plan that keeps its rules.
-abbrev pub KeptTasks : List Task → Type 0
-KeptTasks tasks = (head : Head) × Kept (planned head tasks)
-
--- What holds once the questions about plan and arbiters are answered.
-pub record Asked {S : Type 0} (m : Model S) (p : Plan) (arbiters : List S) : Type 0 where
-  pub kept : Kept p
-  pub one_per_bank : length arbiters ≡ banks_of p.head
-  pub wide : AllByRecursion (λ a. places_of p.head ≤ m.width a) arbiters
+use Rattle.analysis.specs.declared.tables.Windows.{Windows}
 
 -- A column as a table; only the rows of tasks mean anything.
-abbrev pub column : Column → Table
+abbrev pub column : {bits : ℕ} → Column bits → Table
 column c i = slice_index c.rows i
 
--- The numbers of the first n rows are below a limit.
-abbrev pub Under : ℕ → ℕ → Table → Type 0
-Under n limit t = (i : ℕ) → i < n → t i < limit
+-- Windows as tables.
+abbrev pub release_in : Windows → Table
+release_in w = column w.releases
 
--- Releases and responses that no sum of two takes past 64 bits.
-pub record Low (n : ℕ) (rel res : Table) : Type 0 where
-  pub releases : Under n (2 ^ 44) rel
-  pub responses : Under n (2 ^ 35) res
+abbrev pub response_in : Windows → Table
+response_in w = column w.responses
+
+abbrev pub finish_in : Windows → Table
+finish_in w = finish (column w.releases) (column w.responses)
 
 -- Which tasks are marked.
 abbrev pub marked : List Bool → ℕ → Bool
@@ -85,11 +68,10 @@ pub record FirstOpen (marks : List Bool) (rel : Table) (n i : ℕ) : Type 0 wher
 abbrev pub FirstOpenOf : List Bool → Table → ℕ → Option ℕ → Type 0
 FirstOpenOf marks rel n o = MatchOption o ((k : ℕ) → k < n → marked marks k ≡ true) (FirstOpen marks rel n)
 
--- Responses on their way up: nowhere above the smallest, at least 1, and below 2^35.
+-- Responses on their way up: nowhere above the smallest, and at least 1.
 pub record Rising (y : System) (rel res : Table) : Type 0 where
   pub below : BelowSmallest y rel res
   pub positive : (k : ℕ) → k < y.tasks → 1 ≤ res k
-  pub low : Under y.tasks (2 ^ 35) res
 
 -- The response of task i was raised until it covers what the task takes at worst; no other was.
 pub record Settled (y : System) (rel old new : Table) (i : ℕ) : Type 0 where
@@ -97,11 +79,9 @@ pub record Settled (y : System) (rel old new : Table) (i : ℕ) : Type 0 where
   pub covered : worst y rel new i (new i) ≤ new i
   pub others : (k : ℕ) → k ≢ i → new k ≡ old k
 
--- Some of the first n rows differ.
-pub record Differs (n : ℕ) (old new : Table) : Type 0 where
-  pub row : ℕ
-  pub task : row < n
-  pub moved : old row ≢ new row
+-- These windows are what the rounds end with, after so many of them.
+abbrev pub FoundBy : System → Found → Type 0
+FoundBy y f = Rounds y f.rounds (release_in f.windows) (response_in f.windows)
 
 -- Row i is the lowest of the first n that ends after the period.
 pub record LowestLate (n period : ℕ) (ends : Table) (i : ℕ) : Type 0 where
@@ -109,16 +89,14 @@ pub record LowestLate (n period : ℕ) (ends : Table) (i : ℕ) : Type 0 where
   pub late : period < ends i
   pub lowest : (k : ℕ) → k < i → ends k ≤ period
 
--- The first n rows of a table hold these dates, and the others are as they were.
-pub record Written (n : ℕ) (rel res : Table) (old new : List Dates) : Type 0 where
-  pub same_length : length new ≡ length old
-  pub filled : (i : ℕ) → i < n → dated new i ≡ record { release = rel i; response = res i }
-  pub others : (i : ℕ) → n ≤ i → dated new i ≡ dated old i
+-- A table holds these dates.
+abbrev pub Filled : Windows → List Dates → Type 0
+Filled w table = (i : ℕ) → i < length table → dated table i ≡ record { release = release_in w i; response = response_in w i }
 
--- What is decided of the dates that were found.
-abbrev pub Decided : ℕ → ℕ → Found → List Dates → List Dates → Result ℕ Refusal → Type 0
-Decided n period f old new (Ok rounds) = (rounds ≡ f.rounds) × ((i : ℕ) → i < n → finish (column f.releases) (column f.responses) i ≤ period) × Written n (column f.releases) (column f.responses) old new
-Decided n period f old new (Err (refused.Late i e)) = LowestLate n period (finish (column f.releases) (column f.responses)) i × (e ≡ finish (column f.releases) (column f.responses) i) × (new ≡ old)
-Decided n period f old new (Err refused.NoTask) = ⊥
-Decided n period f old new (Err refused.Arbiters) = ⊥
-Decided n period f old new (Err refused.Table) = ⊥
+-- What is decided of the dates that were found, for a table with one row for each task.
+abbrev pub Decided : ℕ → Found → List Dates → List Dates → Result ℕ Refusal → Type 0
+Decided period f old new (Ok rounds) = (rounds ≡ f.rounds) × ((i : ℕ) → i < length old → finish_in f.windows i ≤ period) × Filled f.windows new
+Decided period f old new (Err (refused.Late i e)) = LowestLate (length old) period (finish_in f.windows) i × (e ≡ finish_in f.windows i) × (new ≡ old)
+Decided period f old new (Err refused.NoTask) = ⊥
+Decided period f old new (Err refused.Arbiters) = ⊥
+Decided period f old new (Err refused.Table) = ⊥

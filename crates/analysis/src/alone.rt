@@ -1,23 +1,22 @@
 // What each task takes without meetings.
-ghost use Rattle.std.specs.Prelude.{◌≡◌, ℕ, ◌<◌, length};
-ghost use Rattle.arbiter.specs.Given.{model};
-ghost use Rattle.consistency.specs.Dates.{alone};
-ghost use Rattle.analysis.specs.Plans.{system};
-ghost use Rattle.analysis.specs.Workings.{Asked, column, planned};
+ghost use Rattle.std.specs.Prelude.{◌<◌};
+ghost use Rattle.consistency.specs.Dates.{Same, alone};
+ghost use Rattle.analysis.specs.Systems.{system_of};
+ghost use Rattle.analysis.specs.Workings.{column};
 
-use crate::tables::{Column, Meetings};
-use crate::worst::work_time;
+use crate::system::System;
+use crate::tables::{Meetings, Responses};
 use arbiter::Arbiter;
-use plan::rows::{Head, Task};
 
-pub(crate) fn times_alone<A: Arbiter>(head: Head, tasks: &[Task], arbiters: &[A]) -> Column
-    requires { Asked (model A.Arbiter) (planned head tasks.now) arbiters.now }
-    ensures { (i : ℕ) → i < length tasks.now → column result i ≡ alone (system (model A.Arbiter) (planned head tasks.now) arbiters.now) i }
-{
-    let none = Meetings::none();
-    let mut times = [0; 256];
-    for i in 0..tasks.len() {
-        times[i] = work_time(head, tasks, arbiters, i, &none);
+impl<A: Arbiter> System<'_, A> {
+    pub(crate) fn times_alone(&self) -> Responses
+        ensures { Same (system_of self.now) (column result) (alone (system_of self.now)) }
+    {
+        let none = Meetings::none();
+        let mut rows = [0; 256];
+        for (i, time) in rows[..self.plan.len()].iter_mut().enumerate() {
+            *time = self.work_time(i, &none);
+        }
+        Responses { rows }
     }
-    Column { rows: times }
 }

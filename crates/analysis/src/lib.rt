@@ -7,12 +7,13 @@ mod dating;
 mod granting;
 mod meeting;
 mod order;
-mod questions;
 mod refusal;
 mod releases;
 mod responses;
 mod rounds;
+mod system;
 mod tables;
+mod windows;
 mod worst;
 
 pub use analysing::analyse;

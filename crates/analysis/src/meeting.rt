@@ -1,11 +1,11 @@
 // Which tasks meet a task, and the loads that they add up to.
-ghost use Rattle.std.specs.Prelude.{◌≡◌, ℕ, ◌+◌, ◌^◌, ◌<◌, ◌≤◌, true, false, ◌&&◌, List, map, length, nat_lt, slice_set};
-ghost use Rattle.plan.specs.Rows.{Row, row_of};
-ghost use Rattle.consistency.specs.Dates.{finish};
-ghost use Rattle.analysis.specs.Workings.{KeptTasks, Loaded, Low, MetAll, MetInPart, column, marked, meet};
+ghost use Rattle.std.specs.Prelude.{◌≡◌, ℕ, ◌<◌, true, false, List, length, slice_set};
+ghost use Rattle.plan.specs.Plans.{closed};
+ghost use Rattle.plan.specs.Rows.{Row};
+ghost use Rattle.analysis.specs.Workings.{Loaded, MetAll, MetInPart, marked, release_in, response_in};
 
-use crate::tables::{Column, Meetings};
-use plan::rows::Task;
+use crate::tables::{Meetings, Windows};
+use plan::closed::ClosedPlan;
 
 impl Meetings {
     // Nobody is met yet.
@@ -20,50 +20,34 @@ impl Meetings {
     }
 
     // Task k is met, too.
-    fn add(&mut self, tasks: &[Task], k: usize)
-        requires { (KeptTasks tasks.now) × ((k < length tasks.now) × ((marked self.old.met k ≡ false) × (Loaded (map row_of tasks.now) self.old))) }
+    #[tactic(auto, using(crate::proofs::Times::few_rows))]
+    fn add(&mut self, plan: &ClosedPlan, k: usize)
+        requires known { k < length (closed plan.now).rows }
+        requires free { marked self.old.met k ≡ false }
+        requires loaded { Loaded (closed plan.now).rows self.old }
         ensures marks { self.new.met ≡ slice_set self.old.met k true }
-        ensures loads { Loaded (map row_of tasks.now) self.new }
+        ensures loads { Loaded (closed plan.now).rows self.new }
     {
-        let task = &tasks[k];
+        let task = &plan.tasks()[k];
+        // By index: tried with `iter_mut`, after which the proof did not know what an inner array holds.
         for bank in 0..16 {
             self.loads[bank][task.place] += task.demands[bank];
         }
         self.met[k] = true;
     }
 
-    // All tasks that task i meets under these dates are met. Those that are marked already stay so, since responses only grow.
-    pub(crate) fn meet_all(
-        &mut self,
-        tasks: &[Task],
-        releases: &Column,
-        responses: &Column,
-        i: usize,
-    )
-        requires { (KeptTasks tasks.now) × ((i < length tasks.now) × ((Low (length tasks.now) (column releases.now) (column responses.now)) × (MetInPart (map row_of tasks.now) (column releases.now) (column responses.now) i self.old))) }
-        ensures { MetAll (map row_of tasks.now) (column releases.now) (column responses.now) i self.new }
+    // All tasks that task i meets in these windows are met. Those that are marked already stay so, since responses only grow.
+    pub(crate) fn meet_all(&mut self, plan: &ClosedPlan, windows: &Windows, i: usize)
+        requires known { i < length (closed plan.now).rows }
+        requires met { MetInPart (closed plan.now).rows (release_in windows.now) (response_in windows.now) i self.old }
+        ensures { MetAll (closed plan.now).rows (release_in windows.now) (response_in windows.now) i self.new }
     {
-        for k in 0..tasks.len() {
-            if !self.met[k] && tasks_meet(tasks, releases, responses, i, k) {
-                self.add(tasks, k);
+        let tasks = plan.tasks();
+        let task = &tasks[i];
+        for (k, other) in tasks.iter().enumerate() {
+            if !self.met[k] && task.place != other.place && windows.overlap(i, k) {
+                self.add(plan, k);
             }
         }
     }
-}
-
-// Are tasks i and k at different places, each released before the other's finish?
-fn tasks_meet(tasks: &[Task], releases: &Column, responses: &Column, i: usize, k: usize) -> bool
-    requires { (length tasks.now ≤ 256) × ((i < length tasks.now) × ((k < length tasks.now) × (Low (length tasks.now) (column releases.now) (column responses.now)))) }
-    ensures { result ≡ meet (map row_of tasks.now) (column releases.now) (column responses.now) i (column responses.now i) k }
-{
-    tasks[i].place != tasks[k].place && overlap(releases, responses, i, k)
-}
-
-// Is each of two rows released before the other's finish? Windows that only touch do not overlap.
-fn overlap(releases: &Column, responses: &Column, i: usize, k: usize) -> bool
-    requires { (i < 256) × ((k < 256) × ((column releases.now i + column responses.now i < 2 ^ 45) × (column releases.now k + column responses.now k < 2 ^ 45))) }
-    ensures { result ≡ (nat_lt (column releases.now i) (finish (column releases.now) (column responses.now) k) && nat_lt (column releases.now k) (finish (column releases.now) (column responses.now) i)) }
-{
-    releases.rows[i] < releases.rows[k] + responses.rows[k]
-        && releases.rows[k] < releases.rows[i] + responses.rows[i]
 }

@@ -1,28 +1,18 @@
 // The order of release.
-ghost use Rattle.std.specs.Prelude.{◌≡◌, ◌<◌, ◌≤◌, true, length, IfSome, MatchOption, nat_lt};
+ghost use Rattle.std.specs.Prelude.{◌≤◌, length};
 ghost use Rattle.analysis.specs.Workings.{FirstOpenOf, column};
 
-use crate::tables::Column;
+use crate::tables::Releases;
 
-// Is row k released before that row, if there is one?
-fn is_sooner(releases: &Column, k: usize, than: Option<usize>) -> bool
-    requires { (k < 256) × (IfSome than (λ i. i < 256)) }
-    ensures { MatchOption than (result ≡ true) (λ i. result ≡ nat_lt (column releases.now k) (column releases.now i)) }
+// Of the rows, one that is released first among those that are not marked.
+pub(crate) fn first_open(marks: &[bool], releases: &Releases) -> Option<usize>
+    requires { length marks.now ≤ 256 }
+    ensures { FirstOpenOf marks.now (column releases.now) (length marks.now) result }
 {
-    match than {
-        Some(i) => releases.rows[k] < releases.rows[i],
-        None => true,
-    }
-}
-
-// Of the first rows, one that is released first among those that are not marked.
-pub(crate) fn first_open(marks: &[bool], releases: &Column, rows: usize) -> Option<usize>
-    requires { (rows ≤ 256) × (rows ≤ length marks.now) }
-    ensures { FirstOpenOf marks.now (column releases.now) rows result }
-{
-    let mut first = None;
-    for k in 0..rows {
-        if !marks[k] && is_sooner(releases, k, first) {
+    let mut first: Option<usize> = None;
+    // A loop: with `filter` and `min_by_key`, the proof that every open row was seen did not close.
+    for (k, marked) in marks.iter().enumerate() {
+        if !*marked && first.is_none_or(|i| releases.rows[k] < releases.rows[i]) {
             first = Some(k);
         }
     }

@@ -1,57 +1,50 @@
 // The smallest responses for given releases.
-ghost use Rattle.std.specs.Prelude.{◌≡◌, ℕ, ◌^◌, ◌<◌, length};
-ghost use Rattle.arbiter.specs.Given.{model};
-ghost use Rattle.consistency.specs.Dates.{SmallestResponses, alone as alone_of};
-ghost use Rattle.analysis.specs.Plans.{system};
-ghost use Rattle.analysis.specs.Workings.{Asked, Rising, Settled, Under, column, planned};
+ghost use Rattle.std.specs.Prelude.{◌≡◌, ◌<◌, length};
+ghost use Rattle.consistency.specs.Dates.{Same, SmallestResponses, alone as alone_of};
+ghost use Rattle.analysis.specs.Systems.{plan_in, system_of};
+ghost use Rattle.analysis.specs.Workings.{Rising, Settled, column, release_in, response_in};
 
 use crate::order::first_open;
-use crate::tables::{Column, Meetings};
-use crate::worst::work_time;
+use crate::system::System;
+use crate::tables::{Meetings, Releases, Responses, Windows};
 use arbiter::Arbiter;
-use plan::rows::{Head, Task};
 
-// Raises the response of task i from below until it is what the task takes at worst.
-fn settle<A: Arbiter>(
-    head: Head,
-    tasks: &[Task],
-    arbiters: &[A],
-    releases: &Column,
-    responses: &mut Column,
-    i: usize,
-)
-    requires { (Asked (model A.Arbiter) (planned head tasks.now) arbiters.now) × ((i < length tasks.now) × ((Under (length tasks.now) (2 ^ 44) (column releases.now)) × (Rising (system (model A.Arbiter) (planned head tasks.now) arbiters.now) (column releases.now) (column responses.old)))) }
-    ensures { Settled (system (model A.Arbiter) (planned head tasks.now) arbiters.now) (column releases.now) (column responses.old) (column responses.new) i }
-{
-    let mut meetings = Meetings::none();
-    loop {
-        meetings.meet_all(tasks, releases, responses, i);
-        let worst = work_time(head, tasks, arbiters, i, &meetings);
-        if worst <= responses.rows[i] {
-            return;
+impl<A: Arbiter> System<'_, A> {
+    // Raises the response of task i from below until it is what the task takes at worst.
+    fn settle(&self, windows: &mut Windows, i: usize)
+        requires known { i < length (plan_in self.now).rows }
+        requires rising { Rising (system_of self.now) (release_in windows.old) (response_in windows.old) }
+        ensures settled { Settled (system_of self.now) (release_in windows.old) (response_in windows.old) (response_in windows.new) i }
+        ensures releases { windows.new.releases ≡ windows.old.releases }
+    {
+        let mut meetings = Meetings::none();
+        loop {
+            meetings.meet_all(self.plan, windows, i);
+            let worst = self.work_time(i, &meetings);
+            if worst <= windows.responses.rows[i] {
+                return;
+            }
+            windows.responses.rows[i] = worst;
         }
-        responses.rows[i] = worst;
     }
-}
 
-// From the times without meetings up. Whether two tasks meet depends only on the response of the one released first,
-// so the tasks are settled in the order of release, and none has to be settled again.
-pub(crate) fn smallest_responses<A: Arbiter>(
-    head: Head,
-    tasks: &[Task],
-    arbiters: &[A],
-    releases: &Column,
-    alone: &Column,
-) -> Column
-    requires { (Asked (model A.Arbiter) (planned head tasks.now) arbiters.now) × ((Under (length tasks.now) (2 ^ 44) (column releases.now)) × (((i : ℕ) → i < length tasks.now → column alone.now i ≡ alone_of (system (model A.Arbiter) (planned head tasks.now) arbiters.now) i))) }
-    ensures smallest { SmallestResponses (system (model A.Arbiter) (planned head tasks.now) arbiters.now) (column releases.now) (column result) }
-    ensures low { Under (length tasks.now) (2 ^ 35) (column result) }
-{
-    let mut responses = *alone;
-    let mut settled = [false; 256];
-    while let Some(i) = first_open(&settled, releases, tasks.len()) {
-        settle(head, tasks, arbiters, releases, &mut responses, i);
-        settled[i] = true;
+    // From the times without meetings up. Whether two tasks meet depends only on the response of the one released first,
+    // so the tasks are settled in the order of release, and none has to be settled again.
+    #[tactic(auto, using(crate::proofs::Times::few_rows))]
+    pub(crate) fn smallest_responses(&self, releases: &Releases, alone: &Responses) -> Responses
+        requires { Same (system_of self.now) (column alone.now) (alone_of (system_of self.now)) }
+        ensures { SmallestResponses (system_of self.now) (column releases.now) (column result) }
+    {
+        let tasks = self.plan.len();
+        let mut windows = Windows {
+            releases: *releases,
+            responses: *alone,
+        };
+        let mut settled = [false; 256];
+        while let Some(i) = first_open(&settled[..tasks], releases) {
+            self.settle(&mut windows, i);
+            settled[i] = true;
+        }
+        windows.responses
     }
-    responses
 }

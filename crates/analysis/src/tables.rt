@@ -1,11 +1,25 @@
-// The working tables of the analysis.
-ghost use Rattle.std.specs.Prelude.{◌≡◌, length};
+// The working tables of the analysis. They are as large as the largest plan needs: `analyse` takes no memory, and has no refusal for want of it.
+// Where a slice or a count goes with a column, a premise says that it is at most 256: its type does not.
+ghost use Rattle.std.specs.Prelude.{◌≡◌, ℕ, ◌^◌, ◌<◌, length, slice_index};
 
-// A number for each row of a plan, which has at most 256.
+// A number below 2^BITS for each row of a plan, which has at most 256.
 #[derive(Clone, Copy)]
-pub(crate) struct Column {
+pub(crate) struct Column<const BITS: u32> {
     pub(crate) rows: [u64; 256],
     ghost full: { length rows ≡ 256 },
+    ghost low: { (k : ℕ) → slice_index rows k < 2 ^ BITS },
+}
+
+// Dates and times that no sum of two takes past 64 bits.
+pub(crate) type Releases = Column<44>;
+
+pub(crate) type Responses = Column<35>;
+
+// From when on each task may run, and for how long. Two columns, and no rows of pairs: each round renews one of them from the other.
+#[derive(Clone, Copy)]
+pub(crate) struct Windows {
+    pub(crate) releases: Releases,
+    pub(crate) responses: Responses,
 }
 
 // The tasks that one task meets, and the accesses of all of them, by bank and place.
@@ -17,17 +31,9 @@ pub(crate) struct Meetings {
     ghost banks: { length loads ≡ 16 },
 }
 
-// What one round finds: the responses for its releases, and the releases renewed from them.
-#[derive(Drop)]
-pub(crate) struct Renewal {
-    pub(crate) responses: Column,
-    pub(crate) releases: Column,
-}
-
 // The dates that the rounds end with, and how many rounds there were.
 #[derive(Drop)]
 pub(crate) struct Found {
     pub(crate) rounds: u32,
-    pub(crate) releases: Column,
-    pub(crate) responses: Column,
+    pub(crate) windows: Windows,
 }

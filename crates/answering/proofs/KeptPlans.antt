@@ -1,6 +1,6 @@
 -- The rows of a sheet make a plan that keeps its rules.
 -- Assumes nothing.
-use Rattle.std.proofs.Common.{◌≡◌, ℕ, List, [], ◌∷◌, Some, None, Ok, Err, Option, Result, refl, subst, arith}
+use Rattle.std.proofs.Common.{◌≡◌, List, [], ◌∷◌, Some, None, Ok, Err, Option, Result, refl, subst}
 use Rattle.plan.specs.Rows.{Plan}
 use Rattle.plan.specs.Rules.{Kept, after_refusal, demand_refusal, head_refusal, task_refusal, with_after, with_demand, with_head, with_task}
 use Rattle.plan.specs.declared.rows.Refusal.{Refusal}
@@ -11,7 +11,7 @@ use Rattle.loader.specs.Rows.{all_taken, granted, head_of, taken}
 
 granted_kept : (o : Option Refusal) (p q : Plan) → (o ≡ None → Kept p) → granted o p ≡ Ok q → Kept q
 granted_kept None p q k e = let same : p ≡ q = cc in subst Kept same (k refl)
-granted_kept (Some f) p q k e = let z : ◌≡◌ {A = ℕ} 0 1 = cc in absurd (omega arith)
+granted_kept (Some f) p q k e = cc
 
 taken_kept : (p q : Plan) (x : Row) → Kept p → taken p x ≡ Ok q → Kept q
 taken_kept p q (head make places banks latency period) k e = granted_kept (head_refusal p (head_of places banks latency period)) (with_head p (head_of places banks latency period)) q (head_kept p (head_of places banks latency period) k) e
@@ -20,7 +20,7 @@ taken_kept p q (demand bank count) k e = granted_kept (demand_refusal p bank cou
 taken_kept p q (dependency row) k e = granted_kept (after_refusal p row) (with_after p row) q (after_kept p row k) e
 
 after : (xs : List Row) (p q : Plan) (x : Row) (t : Result Plan Refusal) → Kept p → taken p x ≡ t → then t (λ r. all_taken r xs) ≡ Ok q → ((r : Plan) → Kept r → all_taken r xs ≡ Ok q → Kept q) → Kept q
-after xs p q x (Err f) k e g more = let z : ◌≡◌ {A = ℕ} 0 1 = cc in absurd (omega arith)
+after xs p q x (Err f) k e g more = cc
 after xs p q x (Ok r) k e g more = more r (taken_kept p r x k e) g
 
 all_kept : (xs : List Row) (p q : Plan) → Kept p → all_taken p xs ≡ Ok q → Kept q

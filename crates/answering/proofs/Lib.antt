@@ -1,8 +1,7 @@
 mod Counting
-mod Growing
+mod Making
 mod Loads
 mod Naming
-mod Refilling
 mod OneFault
 mod KeptPlans
 mod OneSystem

@@ -1,6 +1,6 @@
 -- A loaded sheet: what its plan holds, and its listing.
 -- Assumes nothing.
-use Rattle.std.proofs.Common.{◌≡◌, ℕ, zero, suc, ◌≤◌, List, [], map, length, None, Ok, Err, vec_items, sym, refl, ap, ◌∙◌, subst, arith, Bor}
+use Rattle.std.proofs.Common.{◌≡◌, ℕ, ◌≤◌, List, [], map, length, None, Ok, Err, vec_items, sym, ap, ◌∙◌, subst, arith, Bor}
 use Rattle.std.proofs.lemmas.List.{length-map}
 use Rattle.plan.specs.Rows.{Plan}
 use Rattle.plan.specs.Rules.{Kept}
@@ -18,8 +18,8 @@ use Rattle.answering.proofs.Counting.{all_headless, all_named}
 abbrev empty : Plan
 empty = record { head = None; rows = [] }
 
-module _ (sheet : List ℕ) (old new p : Plan) (start : old ≡ empty) where
-  module _ (l : Loaded) (names : List (Bor (List ℕ))) (close : p ≡ new) (same : names ≡ vec_items l.names) (loads : Loads old (whole_reading sheet) (Ok l) new) where
+module _ (sheet : List ℕ) {old new : Plan} (start : old ≡ empty) where
+  module _ (l : Loaded) {p : Plan} {names : List (Bor (List ℕ))} (close : p ≡ new) (same : names ≡ vec_items l.names) (loads : Loads old (whole_reading sheet) (Ok l) new) where
     rows_taken : all_taken empty (whole_reading sheet).rows ≡ Ok p
     rows_taken = ap (λ q. all_taken q (whole_reading sheet).rows) (sym start) ∙ loads.1 ∙ ap Ok (sym close)
 
@@ -32,7 +32,7 @@ module _ (sheet : List ℕ) (old new p : Plan) (start : old ≡ empty) where
     pub no_make : Kept p → l.make ≡ None → length p.rows ≡ 0
     no_make kept none =
         let bare : 1 ≤ length p.rows → ⊥ = no_head p kept (all_headless (whole_reading sheet).rows empty p rows_taken (sym loads.2.make ∙ none)) in
-        elim (length p.rows) as (λ n. (1 ≤ n → ⊥) → n ≡ 0) [ zero ↦ λ h. refl | suc n ↦ λ h. absurd (h (omega arith)) ] bare
+        omega arith
 
     pub listed : (text : List ℕ) → length sheet ≤ 65536 → ListsByMake l.make p (map (λ n. n.now) names) text → Answers sheet text
     listed text short by = record {

@@ -18,7 +18,7 @@ use Rattle.analysis.specs.Answers as analysis
 use Rattle.analysis.specs.Plans.{PlansAreDated, releases, responses, system}
 use Rattle.analysis.specs.declared.refusal.Refusal.{Refusal}
 use Rattle.analysis.specs.declared.refusal.Refusal.TheVariants.{NoTask, Arbiters, Table as ShortTable, Late}
-use Rattle.listing.specs.Listing.{granted, late, row_line, row_lines}
+use Rattle.listing.specs.Listing.{granted, late, rounds_line, row_line, row_lines}
 use Rattle.listing.specs.declared.answer.Row.{Row}
 use Rattle.answering.specs.Listings.{ListsAnswer, ListsGranted, ListsPlan}
 use Rattle.answering.proofs.OneSystem.{fit_keep, system_same, they_fit}
@@ -49,7 +49,7 @@ granted_same n ds es names r s t u l k e a b x y =
     let first = x.told.releases ∙ column_same (λ d. d.release) n ds es l k a ∙ sym y.told.releases in
     let second = x.told.responses ∙ column_same (λ d. d.response) n ds es l k b ∙ sym y.told.responses in
     let third = x.told.named ∙ sym y.told.named in
-    x.lines ∙ ap (λ c. granted c x.rows) e ∙ ap (λ w. codes "G" ++ column 10 s ++ codes "\n" ++ w) (lines_same 0 x.rows y.rows first second third) ∙ sym y.lines
+    x.lines ∙ ap (λ c. granted c x.rows) e ∙ ap (λ w. rounds_line s ++ w) (lines_same 0 x.rows y.rows first second third) ∙ sym y.lines
 
 module _ {S : Type 0} (m : Model S) (theory : PlansAreDated m) (p : Plan) (kept : Kept p) (xs ys : List S) (alike : AllKeep m xs ys) where
   theirs : {rel res : Table} → Consistent (system m p ys) rel res → Consistent (system m p xs) rel res
@@ -96,8 +96,7 @@ module _ {S : Type 0} (m : Model S) (theory : PlansAreDated m) (p : Plan) (kept 
   unfit : (xs ys : List S) (table : List Dates) → AllKeep m xs ys → Fits m p xs table → arbiters_fit m p ys ≡ false → ⊥
   unfit xs ys table alike fits narrow =
       let yes = sym (they_fit m p xs table fits) ∙ fit_keep m p xs ys alike ∙ narrow in
-      let z : ◌≡◌ {A = ℕ} 0 1 = cc in
-      omega arith
+      cc
 
   back : (xs ys : List S) → AllKeep m xs ys → AllKeep m ys xs
   back [] [] h = tt

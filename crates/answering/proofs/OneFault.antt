@@ -14,7 +14,7 @@ use Rattle.loader.specs.Loading.{Stopped, Stops, refused, row_at, starved, unrea
 use Rattle.loader.specs.Rows.{all_taken, taken}
 
 stuck_after : (xs ys : List Row) (q : Plan) (f : Refusal) (t : Result Plan Refusal) → then t (λ p. all_taken p xs) ≡ Ok q → ((p : Plan) → all_taken p xs ≡ Ok q → all_taken p ys ≡ Err f) → then t (λ p. all_taken p ys) ≡ Err f
-stuck_after xs ys q f (Err g) e more = let z : ◌≡◌ {A = ℕ} 0 1 = cc in absurd (omega arith)
+stuck_after xs ys q f (Err g) e more = cc
 stuck_after xs ys q f (Ok p) e more = more p e
 
 -- A row that is refused behind k others that are taken stops all rows.
@@ -28,8 +28,7 @@ module _ (start : Plan) (sheet : Reading) where
   no_more : (k j : ℕ) (p q : Plan) (f : Refusal) → k < j → j ≤ length sheet.rows → all_taken start (take k sheet.rows) ≡ Ok p → taken p (row_at sheet.rows k) ≡ Err f → all_taken start (take j sheet.rows) ≡ Ok q → ⊥
   no_more k j p q f l h a r b =
       let e = stuck (take j sheet.rows) k start p f (omega (arith, length-take-le j sheet.rows h)) (ap (all_taken start) (take-take k j sheet.rows (omega arith)) ∙ a) (ap (taken p) (get_or-take j sheet.rows k (dependency 0) l) ∙ r) in
-      let z : ◌≡◌ {A = ℕ} 0 1 = cc in
-      omega arith
+      cc
 
   refused_same : (k j : ℕ) (p q : Plan) (f g : Refusal) → k < length sheet.rows → j < length sheet.rows → all_taken start (take k sheet.rows) ≡ Ok p → taken p (row_at sheet.rows k) ≡ Err f → all_taken start (take j sheet.rows) ≡ Ok q → taken q (row_at sheet.rows j) ≡ Err g → row_fault (k + 1) f ≡ row_fault (j + 1) g
   refused_same k j p q f g l h a r b s =
@@ -61,8 +60,8 @@ module _ (start : Plan) (sheet : Reading) where
 
   -- A sheet with a fault is not taken whole.
   stops_short : (k : ℕ) (p q : Plan) {f : LoadFault} → all_taken start (take k sheet.rows) ≡ Ok p → Stops sheet k p f → 1 ≤ number_of f.cause → sheet.fault ≡ None → all_taken start sheet.rows ≡ Ok q → ⊥
-  stops_short k p q a (unread e h n l) s none all = let z : ◌≡◌ {A = ℕ} 0 1 = cc in omega arith
-  stops_short k p q a (refused f l r) s none all = let e = stuck sheet.rows k start p f l a r in let z : ◌≡◌ {A = ℕ} 0 1 = cc in omega arith
+  stops_short k p q a (unread e h n l) s none all = cc
+  stops_short k p q a (refused f l r) s none all = let e = stuck sheet.rows k start p f l a r in cc
   stops_short k p q a (starved l grows) s none all = omega arith
 
   pub not_both : (f : LoadFault) (p q : Plan) → Stopped start sheet f p → 1 ≤ number_of f.cause → sheet.fault ≡ None → all_taken start sheet.rows ≡ Ok q → ⊥

@@ -5,7 +5,7 @@ use mathlib.Core.Path.{fun_ext}
 use Rattle.std.proofs.lemmas.Bool.Decides.{nat_tests}
 use Rattle.std.specs.List.{AllByRecursion}
 use Rattle.plan.specs.Rows.{Plan, Row, accesses, row}
-use Rattle.plan.specs.Rules.{banks_of, places_of}
+use Rattle.plan.specs.Rules.{banks_of, places_of, latency_of}
 use Rattle.plan.specs.Waits.{waits_for}
 use Rattle.arbiter.specs.Fair.{fair_bound}
 use Rattle.arbiter.specs.Meaning.{Keeps, Model}
@@ -15,7 +15,7 @@ use Rattle.bostan.specs.Piles.{Pile, bostan}
 use Rattle.answering.specs.Listings.{FreshPile}
 use Rattle.date_check.specs.declared.dates.Dates.{Dates}
 use Rattle.date_check.specs.Keeping.{AllKeep}
-use Rattle.date_check.specs.Sound.{Fits, latency_of, loads, services}
+use Rattle.date_check.specs.Sound.{Fits, loads, services}
 use Rattle.date_check.specs.Verdict.{all_wide, arbiters_fit}
 use Rattle.analysis.specs.Plans.{system}
 

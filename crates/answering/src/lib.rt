@@ -3,9 +3,8 @@
 
 mod answering;
 mod arbiters;
-mod dating;
-mod makes;
 mod memory;
+mod named;
 mod rows;
 mod uniqueness;
 mod writing;

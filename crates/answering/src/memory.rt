@@ -1,7 +1,10 @@
 // Want of memory.
-ghost use Rattle.std.specs.Prelude.{◌≡◌};
+ghost use Rattle.std.specs.Prelude.{◌≡◌, Some, codes};
 
 use std::alloc::{AllocError, AllocFailed};
+use std::error::Error;
+use std::fmt;
+use std::fmt::{Display, Formatter};
 
 // There is too little memory for an answer.
 #[derive(Clone, Copy, PartialEq, Eq, Debug)]
@@ -15,6 +18,16 @@ impl OutOfMemory {
         0
     }
 }
+
+impl Display for OutOfMemory {
+    ghost output = { λ _. Some (codes "out of memory") };
+
+    fn fmt<W: fmt::Write>(&self, f: &mut Formatter<W>) -> fmt::Result {
+        f.write_str("out of memory")
+    }
+}
+
+impl Error for OutOfMemory {}
 
 impl From<AllocError> for OutOfMemory {
     fn from(_e: AllocError) -> OutOfMemory {

@@ -1,7 +1,6 @@
 // The text of a listing.
 ghost use Rattle.std.specs.Prelude.{◌≡◌, IfOk};
-ghost use Rattle.listing.specs.Listing.{fault as fault_text, listing as listing_of};
-ghost use Rattle.listing.specs.declared.answer.Answer.TheVariants.{Fault};
+ghost use Rattle.listing.specs.Listing.{fault, listing as listing_of};
 
 use crate::memory::OutOfMemory;
 use listing::{Answer, list, size};
@@ -11,24 +10,10 @@ use std::alloc::Global;
 pub(crate) fn write(heap: Global, answer: &Answer) -> Result<Vec<u8>, OutOfMemory>
     ensures { IfOk result (λ text. text.items ≡ listing_of answer.now) }
 {
-    let Some(length) = size(answer) else {
-        return Err(OutOfMemory);
-    };
+    let length = size(answer).ok_or(OutOfMemory)?;
     let mut text = vec![in heap; b' '; length]?;
-    match list(text.as_mut_slice(), answer) {
-        Ok(_) => Ok(text),
-        Err(_) => unreachable(),
-    }
-}
-
-fn fault(number: u32, line: usize, column: usize) -> Answer<'static, 'static>
-    ensures { result ≡ Fault number line column }
-{
-    Answer::Fault {
-        number,
-        line,
-        column,
-    }
+    list(text.as_mut_slice(), answer).unwrap();
+    Ok(text)
 }
 
 pub(crate) fn write_fault(
@@ -37,7 +22,12 @@ pub(crate) fn write_fault(
     line: usize,
     column: usize,
 ) -> Result<Vec<u8>, OutOfMemory>
-    ensures { IfOk result (λ text. text.items ≡ fault_text number line column) }
+    ensures { IfOk result (λ text. text.items ≡ fault number line column) }
 {
-    write(heap, &fault(number, line, column))
+    let answer = Answer::Fault {
+        number,
+        line,
+        column,
+    };
+    write(heap, &answer)
 }

@@ -1,19 +1,14 @@
 -- What it means that a bound is accepted.
 use Rattle.std.proofs.Common.{◌≡◌, ℕ, zero, suc, ◌<◌, ◌≤◌, Bool, true, false, cond, ◌&&◌, eqb, ltb, leb, List, [], ◌∷◌, length, get_or, Ok, Err, Result, refl, arith}
-use Rattle.std.proofs.lemmas.Bool.{lt-ltb, ltb-true, eq-eqb, eqb-true, le-leb, lt-leb, leb-true, and_from, and_left, and_right, and_parts}
+use Rattle.std.proofs.lemmas.Bool.{lt-ltb, ltb-true, eq-eqb, eqb-true, le-leb, leb-true, and_from, and_parts}
+use Rattle.std.proofs.lemmas.List.Recursion.{and_from_places}
 use Rattle.arbiter.specs.declared.refusal.Refusal.{Refusal}
 use Rattle.arbiter.specs.declared.refusal.Refusal.TheVariants.{Range, Unknown, Size}
 use Rattle.arbiter.specs.Counts.{limit, all_within}
 use Rattle.arbiter.specs.Answers.{Accepts}
 
 pub within : (xs : List ℕ) → ((k : ℕ) → k < length xs → get_or xs k 0 ≤ limit) → all_within xs ≡ true
-within [] h = refl
-within (x ∷ xs) h = and_from (leb x limit) (all_within xs) (le-leb x limit (h 0 (omega arith))) (within xs (λ k e. h (suc k) (omega arith)))
-
-pub not_within : (xs : List ℕ) (k : ℕ) → k < length xs → limit < get_or xs k 0 → all_within xs ≡ false
-not_within [] k h e = absurd (omega arith)
-not_within (x ∷ xs) zero h e = and_left (leb x limit) (all_within xs) (lt-leb x limit e)
-not_within (x ∷ xs) (suc k) h e = and_right (leb x limit) (all_within xs) (not_within xs k (omega arith) e)
+within xs h = and_from_places all_within (λ x. leb x limit) refl (λ x xs. refl) xs 0 (λ k e. le-leb (get_or xs k 0) limit (h k e))
 
 pub within_at : (xs : List ℕ) (k : ℕ) → all_within xs ≡ true → get_or xs k 0 ≤ limit
 within_at [] k h = omega arith

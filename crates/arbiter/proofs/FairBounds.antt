@@ -1,5 +1,5 @@
 -- The laws of the fair bound itself.
-use Rattle.std.proofs.Common.{◌≡◌, ℕ, ◌+◌, ◌<◌, ◌≤◌, min, ◌≢◌, List, length, get_or, ap, inl, inr, add-one, arith}
+use Rattle.std.proofs.Common.{◌≡◌, ℕ, ◌+◌, ◌<◌, ◌≤◌, min, ◌≢◌, List, length, get_or, ap, inl, inr, arith}
 use Rattle.std.proofs.lemmas.List.{get_or_past}
 use Rattle.std.proofs.lemmas.Bool.{cases_eq, eq-eqb, ne_eqb}
 use Rattle.arbiter.specs.Counts.{sum_below, counted}
@@ -22,12 +22,9 @@ fair_at_most_all n s own xs = omega (arith, sum_below_le n (share s own xs) (cou
 pub fair_monotone : (n s own more : ℕ) (xs ys : List ℕ) → own ≤ more → ((o : ℕ) → o < n → o ≢ s → get_or xs o 0 ≤ get_or ys o 0) → fair_bound n s own xs ≤ fair_bound n s more ys
 fair_monotone n s own more xs ys le each = omega (arith, sum_below_le n (share s own xs) (share s more ys) (λ o j. omega (arith, counted_le s xs ys o (each o j))))
 
--- The loop over the sources: one more, and no need to look past the entries.
-pub fair_more : (s own : ℕ) (xs : List ℕ) (o : ℕ) → sum_below (o + 1) (λ p. min (counted s xs p) own) ≡ min (counted s xs o) own + sum_below o (λ p. min (counted s xs p) own)
-fair_more s own xs o = ap (λ k. sum_below k (share s own xs)) (add-one o)
-
-pub fair_cut : (n s own : ℕ) (xs : List ℕ) → length xs ≡ 32 → fair_bound n s own xs ≡ own + sum_below (min n 32) (λ p. min (counted s xs p) own)
-fair_cut n s own xs e = ap (λ x. own + x) (sum_below_cut n 32 (share s own xs) (λ o h. nothing o h))
+-- The entries of the first n sources are all that count, for there are 32 of them.
+pub fair_cut : (n k s own : ℕ) (xs : List ℕ) → length xs ≡ 32 → k ≡ min n 32 → fair_bound n s own xs ≡ own + sum_below k (share s own xs)
+fair_cut n k s own xs e i = rw i (ap (λ x. own + x) (sum_below_cut n 32 (share s own xs) (λ o h. nothing o h)))
   where
     nothing : (o : ℕ) → 32 ≤ o → share s own xs o ≡ 0
     nothing o h = elim (cases_eq o s) [ inl same ↦ rw (eq-eqb o s same) (omega arith) | inr ne ↦ rw (ne_eqb o s ne, get_or_past xs o 0 (omega arith)) (omega arith) ]

@@ -1,20 +1,20 @@
 -- A value that holds an arbiter and behaves as it keeps its laws.
-use Rattle.std.proofs.Common.{◌≡◌, ℕ, Bool, List, Some, None, Option, sym, subst}
+use Rattle.std.proofs.Common.{◌≡◌, ℕ, List, Some, None, Option, sym, subst}
 use Rattle.arbiter.specs.Events.{Event, Trace, stop, then_post, then_pick, then_done}
 use Rattle.arbiter.specs.Answers.{AfterPick}
-use Rattle.arbiter.specs.Meaning.{Moves, meaning}
+use Rattle.arbiter.specs.Meaning.{Model}
 use Rattle.arbiter.specs.Laws.{Steps, Lawful}
-use Rattle.arbiter.specs.Held.{held, held_moves}
+use Rattle.arbiter.specs.Held.{held}
 
-module _ {S T : Type 0} (f : T → S) (make : S → T) (found : (x : S) → f (make x) ≡ x) (waiting : S → ℕ → Bool) (last : S → Option ℕ) (m : Moves S) (laws : Lawful (meaning waiting last m)) where
+module _ {S T : Type 0} (f : T → S) (make : S → T) (found : (x : S) → f (make x) ≡ x) (m : Model S) (laws : Lawful m) where
   -- The value's traces are the arbiter's.
-  held_trace : {a b : T} {v u : Option ℕ} {es : List Event} → Trace (held_moves f m).posted (held_moves f m).picked a v es b u → Trace m.posted m.picked (f a) v es (f b) u
+  held_trace : {a b : T} {v u : Option ℕ} {es : List Event} → Trace (held f m).posted (held f m).picked a v es b u → Trace m.posted m.picked (f a) v es (f b) u
   held_trace stop = stop
   held_trace (then_post free h r) = then_post free h (held_trace r)
   held_trace (then_pick h r) = then_pick h (held_trace r)
   held_trace (then_done r) = then_done (held_trace r)
 
-  held_steps : Steps (held f waiting last m)
+  held_steps : Steps (held f m)
   held_steps =
       let k = laws.steps in
       record {
@@ -28,7 +28,7 @@ module _ {S T : Type 0} (f : T → S) (make : S → T) (found : (x : S) → f (m
         pick_exists = λ a s h. (let p = k.pick_exists (f a) s h in (p.0, make p.1, subst (λ x. m.picked (f a) p.0 x) (sym (found p.1)) p.2));
       }
 
-  pub held_lawful : Lawful (held f waiting last m)
+  pub held_lawful : Lawful (held f m)
   held_lawful = record {
     steps = held_steps;
     without_own = λ a s xs h. laws.without_own (f a) s xs h;
@@ -39,6 +39,6 @@ module _ {S T : Type 0} (f : T → S) (make : S → T) (found : (x : S) → f (m
   }
 
 -- A pick of the arbiter inside is a pick of the value.
-pub held_picking : {S T : Type 0} (f : T → S) (waiting : S → ℕ → Bool) (last : S → Option ℕ) (m : Moves S) (a b : T) (e : Option ℕ) → (f b ≡ f a → b ≡ a) → AfterPick (meaning waiting last m) (f a) (f b) e → AfterPick (held f waiting last m) a b e
-held_picking f waiting last m a b None same h = (same h.0, h.1)
-held_picking f waiting last m a b (Some s) same h = h
+pub held_picking : {S T : Type 0} (f : T → S) (m : Model S) (a b : T) (e : Option ℕ) → (f b ≡ f a → b ≡ a) → AfterPick m (f a) (f b) e → AfterPick (held f m) a b e
+held_picking f m a b None same h = (same h.0, h.1)
+held_picking f m a b (Some s) same h = h

@@ -1,5 +1,6 @@
 -- Counts of accesses, one entry for each source.
-use Rattle.std.specs.Prelude.{ℕ, zero, suc, ◌+◌, Bool, true, cond, ◌&&◌, List, [], ◌∷◌, ◌==◌, nat_le, slice_index}
+use Rattle.std.specs.Prelude.{◌≡◌, ℕ, zero, suc, ◌+◌, Bool, true, cond, List, length, ◌==◌, nat_le, slice_index}
+use Rattle.std.specs.List.{list_all}
 
 -- The largest count: 256 tasks with 65,535 accesses each.
 abbrev pub limit : ℕ
@@ -7,8 +8,12 @@ limit = 16776960
 
 -- Is no entry above the limit?
 abbrev pub all_within : List ℕ → Bool
-all_within [] = true
-all_within (x ∷ xs) = nat_le x limit && all_within xs
+all_within xs = list_all (λ x. nat_le x limit) xs
+
+-- Are these the counts of 32 sources, none above the limit?
+pub record AreCounts (xs : List ℕ) : Type 0 where
+  pub full : length xs ≡ 32
+  pub within : all_within xs ≡ true
 
 -- What a bound for s counts of source o: its entry, and nothing of s itself.
 abbrev pub counted : ℕ → List ℕ → ℕ → ℕ

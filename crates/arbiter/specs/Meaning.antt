@@ -11,17 +11,6 @@ pub record Model (S : Type 0) : Type 1 where
   pub posted : S → ℕ → S → Type 0
   pub picked : S → ℕ → S → Type 0
 
--- The same without the waiting sources and the last pick.
-pub record Moves (S : Type 0) : Type 1 where
-  pub width : S → ℕ
-  pub bound : S → ℕ → ℕ → List ℕ → ℕ
-  pub posted : S → ℕ → S → Type 0
-  pub picked : S → ℕ → S → Type 0
-
--- The model that the three make.
-abbrev pub meaning : {S : Type 0} → (S → ℕ → Bool) → (S → Option ℕ) → Moves S → Model S
-meaning waiting last m = record { width = m.width; waiting = waiting; last = last; bound = m.bound; posted = m.posted; picked = m.picked }
-
 -- From a to b the source s, which did not wait, begins to wait, and nothing else changes.
 pub record Post {S : Type 0} (m : Model S) (a : S) (s : ℕ) (b : S) : Type 0 where
   pub known : s < m.width a

@@ -1,26 +1,21 @@
 // The bound of arbiters that serve no other source twice while a source waits.
-ghost use Rattle.std.specs.Prelude.{◌≡◌, ◌<◌, ◌≤◌, min, length};
-ghost use Rattle.arbiter.specs.Counts.{counted, limit};
+ghost use Rattle.std.specs.Prelude.{◌≡◌, ◌≤◌};
+ghost use Rattle.arbiter.specs.Counts.{limit, AreCounts};
 ghost use Rattle.arbiter.specs.Answers.{bound_answer};
 ghost use Rattle.arbiter.specs.Fair.{fair_bound};
 
 use crate::{Refusal, accept};
 
-// What source o may add to the delay of s: its accesses, but at most one for each own access.
-fn share(s: usize, own: u64, counts: &[u64], o: usize) -> u64
-    requires { o < length counts.now }
-    ensures { result ≡ min (counted s counts.now o) own }
-{
-    if o == s { 0 } else { counts[o].min(own) }
-}
-
+// Each source but s adds its accesses, but at most one for each own access.
 fn fair_sum(width: usize, s: usize, own: u64, counts: &[u64]) -> u64
-    requires { (length counts.now ≡ 32) × (own ≤ limit) }
+    requires { (own ≤ limit) × AreCounts counts.now }
     ensures { result ≡ fair_bound width s own counts.now }
 {
     let mut sum = own;
-    for o in 0..width.min(32) {
-        sum += share(s, own, counts, o);
+    for (o, &count) in counts[..width.min(32)].iter().enumerate() {
+        if o != s {
+            sum += count.min(own);
+        }
     }
     sum
 }

@@ -1,2 +1,1 @@
-pub mod NewPiles
 pub mod LevelBounds

@@ -3,11 +3,9 @@
 
 ghost use Rattle.std.specs.Prelude.{◌≡◌, true};
 ghost use Rattle.arbiter.specs.Laws.{Lawful};
-ghost use Rattle.rings.specs.Rings.{NewRing};
 ghost use Rattle.bostan.specs.Piles.{bostan, IsUnpicked, NewPile};
 ghost use Rattle.bostan.specs.Worked.{WorkedBounds};
 
-use arbiter::Arbiter;
 use layers::{Alternation, Precedence};
 use rings::Ring;
 
@@ -15,23 +13,15 @@ use rings::Ring;
 pub type Pile = Precedence<Alternation<Ring, Ring>, Ring>;
 
 // A ring of cores takes turns with a ring of units, and network receive goes before both.
-fn stacked(cores: Ring, units: Ring, receive: Ring) -> Pile
-    requires { NewRing 16 cores × NewRing 3 units × NewRing 1 receive }
-    ensures made { NewPile result }
-    ensures unpicked { IsUnpicked result }
-{
-    Precedence::new(Alternation::new(cores, units), receive)
-}
-
-// A new pile: nobody waits, nobody was picked, and its layers have not picked from a side yet.
+// In a new pile nobody waits, nobody was picked, and its layers have not picked from a side yet.
 pub fn pile() -> Pile
     ensures made { NewPile result }
     ensures unpicked { IsUnpicked result }
 {
-    stacked(Ring::new(16), Ring::new(3), Ring::new(1))
+    Precedence::new(Alternation::new(Ring::new(16), Ring::new(3)), Ring::new(1))
 }
 
-// Always true; its promise is that the pile keeps the laws of arbiters.
+// Always true; its promise is that the pile keeps the laws of arbiters, which names the definition of the pile as `arbiter::laws` cannot.
 pub fn laws() -> bool
     ensures answer { result ≡ true }
     ensures lawful { Lawful bostan }
@@ -39,20 +29,12 @@ pub fn laws() -> bool
     arbiter::laws(&pile())
 }
 
-// The worked bounds follow from the definitions.
-fn levels() -> bool
-    ensures answer { result ≡ true }
-    ensures worked { WorkedBounds }
-{
-    true
-}
-
 // Always true; its promise is two bounds worked out level by level.
 pub fn worked_bounds() -> bool
     ensures answer { result ≡ true }
     ensures worked { WorkedBounds }
 {
-    levels()
+    true
 }
 
 #[cfg(test)]

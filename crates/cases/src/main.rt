@@ -4,25 +4,23 @@
 use loader::loading::load;
 use plan::open::OpenPlan;
 use std::fs;
+use std::fs::Files;
 
-fn print_case(rt: &HostRuntime, name: &str) -> anyhow::Result<()> {
+fn print_case(rt: &(impl Print + AllocGlobal + Files), name: &str) -> anyhow::Result<()> {
     let heap = rt.alloc();
     let path = format!(in heap; "sheets/{name}")?;
     let bytes = fs::read(rt, path.as_str())?;
     let mut plan = OpenPlan::new(heap);
     match load(heap, &mut plan, bytes.as_slice()) {
         Ok(_) => print!(rt; "{name}: loaded")?,
-        Err(fault) => {
-            let number = fault.number();
-            print!(rt;
-                "{name}: {number} at line {} column {}",
-                fault.line, fault.column
-            )?
-        }
+        Err(fault) => print!(rt;
+            "{name}: {} at line {} column {}",
+            fault.number(),
+            fault.line,
+            fault.column
+        )?,
     }
-    let plan = plan.close();
-    let tasks = plan.tasks().len();
-    println!(rt; ", {tasks} tasks")?;
+    println!(rt; ", {} tasks", plan.close().len())?;
     Ok(())
 }
 

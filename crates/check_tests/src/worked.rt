@@ -75,7 +75,7 @@ fn asked_first(rt: HostRuntime) -> Result<(), Fail> {
         Err(Refusal::Arbiters)
     );
     assert_eq!(rt;
-        check(&plan, &[Ring::new(2)], &dates[0..1]),
+        check(&plan, &[Ring::new(2)], &dates[..1]),
         Err(Refusal::Table)
     );
     assert_eq!(rt; check(&plan, &[Ring::new(2)], &dates), Err(Refusal::Range));

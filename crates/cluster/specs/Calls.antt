@@ -1,13 +1,13 @@
 -- What set-up, asks and cycles answer, and what they leave.
-use Rattle.std.specs.Prelude.{◌≡◌, ℕ, zero, suc, Bool, true, cond, not, ◌&&◌, List, [], ◌∷◌, length, Some, None, Ok, Err, Option, Result, nat_le, nat_lt, slice_set}
+use Rattle.std.specs.Prelude.{◌≡◌, ℕ, zero, suc, Bool, true, cond, not, ◌&&◌, List, [], ◌∷◌, length, Some, None, Ok, Err, Option, Result, is_some, nat_le, nat_lt, slice_set}
 use Rattle.std.specs.List.{slice_get}
 use Rattle.plan.specs.Rows.{Plan}
-use Rattle.plan.specs.Rules.{banks_of, between, places_of}
+use Rattle.plan.specs.Rules.{banks_of, between, places_of, latency_of, period_of}
 use Rattle.arbiter.specs.Answers.{post_answer, someone}
 use Rattle.arbiter.specs.Meaning.{Model}
 use Rattle.arbiter.specs.declared.refusal.Refusal as arbiters
 use Rattle.date_check.specs.declared.dates.Dates.{Dates}
-use Rattle.date_check.specs.Sound.{dated, finish, latency_of, period_of}
+use Rattle.date_check.specs.Sound.{dated, finish}
 use Rattle.date_check.specs.Verdict.{arbiters_fit}
 use Rattle.cluster.specs.declared.breach.Breach.{Breach}
 use Rattle.cluster.specs.declared.place.Place.{Place}
@@ -17,7 +17,7 @@ use Rattle.cluster.specs.declared.refusal.CallRefusal.{CallRefusal}
 use Rattle.cluster.specs.declared.refusal.CallRefusal.TheVariants.{Breached, Unknown, Idle, Busy, Spent}
 use Rattle.cluster.specs.declared.refusal.SetUpRefusal.{SetUpRefusal}
 use Rattle.cluster.specs.declared.refusal.SetUpRefusal.TheVariants.{NoTask, Arbiters, Table, Waiting, Range, Late}
-use Rattle.cluster.specs.Cycles.{Turns, close, is_some, lowest, releases, worked}
+use Rattle.cluster.specs.Cycles.{Turns, close, lowest, releases, worked}
 use Rattle.cluster.specs.Places.{left_at}
 use Rattle.cluster.specs.States.{State, fresh, happen, place_of, with_arbiters}
 

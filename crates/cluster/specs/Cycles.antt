@@ -1,13 +1,13 @@
 -- What releases and cycles do.
-use Rattle.std.specs.Prelude.{◌≡◌, ℕ, zero, suc, ◌+◌, ◌-◌, Bool, true, false, cond, not, ◌&&◌, ◌||◌, List, map, length, replicate, Some, None, Option, ◌==◌, slice_set}
+use Rattle.std.specs.Prelude.{◌≡◌, ℕ, zero, suc, ◌+◌, ◌-◌, Bool, true, false, cond, not, ◌&&◌, ◌||◌, List, map, length, replicate, Some, None, Option, is_some, ◌==◌, slice_set}
 use Rattle.std.specs.List.{slice_get}
 use Rattle.plan.specs.Rows.{Plan, row}
-use Rattle.plan.specs.Rules.{banks_of, places_of}
+use Rattle.plan.specs.Rules.{banks_of, places_of, period_of}
 use Rattle.plan.specs.Waits.{waits_for}
 use Rattle.arbiter.specs.Answers.{AfterPick}
 use Rattle.arbiter.specs.Meaning.{Model}
 use Rattle.date_check.specs.declared.dates.Dates.{Dates}
-use Rattle.date_check.specs.Sound.{dated, finish, period_of}
+use Rattle.date_check.specs.Sound.{dated, finish}
 use Rattle.cluster.specs.declared.breach.Breach.TheVariants.{Overdue, Unready}
 use Rattle.cluster.specs.declared.place.Job.{Job}
 use Rattle.cluster.specs.declared.place.Place.{Place}
@@ -34,10 +34,6 @@ abbrev pub is_done : Stage → Bool
 is_done Ahead = false
 is_done AtWork = false
 is_done Done = true
-
-abbrev pub is_some : {X : Type 0} → Option X → Bool
-is_some None = false
-is_some (Some x) = true
 
 -- The lowest row below n that passes a test, if one does.
 abbrev pub or_else : Option ℕ → Option ℕ → Option ℕ

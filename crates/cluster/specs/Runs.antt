@@ -1,11 +1,11 @@
 -- Runs, their moments, and what is promised of them.
 use Rattle.std.specs.Prelude.{◌≡◌, ℕ, ◌<◌, ◌≤◌, true, List, length, None, Result}
 use Rattle.plan.specs.Rows.{Plan, row}
-use Rattle.plan.specs.Rules.{Kept, banks_of, places_of}
+use Rattle.plan.specs.Rules.{Kept, banks_of, places_of, latency_of}
 use Rattle.plan.specs.Waits.{waits_for}
 use Rattle.arbiter.specs.Meaning.{Model}
 use Rattle.date_check.specs.declared.dates.Dates.{Dates}
-use Rattle.date_check.specs.Sound.{Sound, dated, finish, latency_of}
+use Rattle.date_check.specs.Sound.{Sound, dated, finish}
 use Rattle.cluster.specs.declared.place.Place.TheVariants.{Idle}
 use Rattle.cluster.specs.declared.refusal.CallRefusal.{CallRefusal}
 use Rattle.cluster.specs.declared.stage.Stage.TheVariants.{AtWork, Done}

@@ -25,8 +25,7 @@ impl Breach {
         ensures { result ≡ row_of self }
     {
         match self {
-            Breach::Overdue(row) => row,
-            Breach::Unready(row) => row,
+            Breach::Overdue(row) | Breach::Unready(row) => row,
         }
     }
 }

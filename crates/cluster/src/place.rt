@@ -3,8 +3,8 @@ ghost use Rattle.std.specs.Prelude.{◌≡◌};
 ghost use Rattle.cluster.specs.Cycles.{is_idle};
 ghost use Rattle.cluster.specs.Places.{access_used, after, cycle_used};
 
-// A task at work: its row, and the cycles and the accesses, bank by bank, that it has left.
-#[derive(Clone, Copy, Debug)]
+// A task at work: its row, and the cycles and the accesses, bank by bank, that it has left. The accesses stand in place, for all 16 banks: a run takes no memory.
+#[derive(Clone, Copy, PartialEq, Eq, Debug)]
 pub struct Job {
     pub task: usize,
     pub cycles: u64,
@@ -12,7 +12,7 @@ pub struct Job {
 }
 
 // A place waits or is served at a bank.
-#[derive(Clone, Copy, Debug)]
+#[derive(Clone, Copy, PartialEq, Eq, Debug)]
 pub enum Place {
     Idle,
     Working(Job),
@@ -30,14 +30,14 @@ pub enum Event {
 }
 
 impl Job {
-    fn access_used(self, bank: usize) -> Job
+    // There is no bank from 16 on (a write through `get_mut` tells the proof nothing of the accesses).
+    fn access_used(mut self, bank: usize) -> Job
         ensures { result ≡ access_used self bank }
     {
-        let mut job = self;
         if bank < 16 {
-            job.accesses[bank] = job.accesses[bank].saturating_sub(1);
+            self.accesses[bank] = self.accesses[bank].saturating_sub(1);
         }
-        job
+        self
     }
 
     fn cycle_used(self) -> Job
@@ -54,10 +54,7 @@ impl Place {
     pub fn is_idle(self) -> bool
         ensures { result ≡ is_idle self }
     {
-        match self {
-            Place::Idle => true,
-            Place::Working(_) | Place::Waiting(_, _) | Place::Served(_, _) => false,
-        }
+        matches!(self, Place::Idle)
     }
 
     // The place and the event decide together; an event that does not concern the place leaves it as it is.

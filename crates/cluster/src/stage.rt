@@ -13,18 +13,12 @@ impl Stage {
     pub fn is_at_work(self) -> bool
         ensures { result ≡ is_at_work self }
     {
-        match self {
-            Stage::AtWork => true,
-            Stage::Ahead | Stage::Done => false,
-        }
+        matches!(self, Stage::AtWork)
     }
 
     pub fn is_done(self) -> bool
         ensures { result ≡ is_done self }
     {
-        match self {
-            Stage::Done => true,
-            Stage::Ahead | Stage::AtWork => false,
-        }
+        matches!(self, Stage::Done)
     }
 }

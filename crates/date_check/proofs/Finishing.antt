@@ -1,9 +1,9 @@
 -- What a task waits for, and when all of it has finished.
 -- Assumes nothing.
-use Rattle.std.proofs.Common.{◌≡◌, ℕ, zero, suc, ◌<◌, ◌≤◌, Bool, true, false, not, ◌||◌, eqb, leb, List, [], ◌∷◌, length, get_or, IfSome, Some, None, Ok, Decides, Option, sym, refl, ap, ◌∙◌, subst, ⊎_elim, arith}
+use Rattle.std.proofs.Common.{◌≡◌, ℕ, zero, suc, ◌<◌, ◌≤◌, Bool, true, false, not, ◌||◌, eqb, leb, List, [], ◌∷◌, length, get_or, IfSome, MatchOption, Some, None, Decides, Option, sym, refl, ap, ◌∙◌, subst, ⊎_elim, arith}
 use Rattle.std.proofs.lemmas.Bool.{cond_both, eq-eqb, eqb-true, le-leb, leb-true, or_cases, or_left, or_right}
 use Rattle.std.proofs.lemmas.Bool.Decides.{Decides-below_and, same_from_decides}
-use Rattle.plan.specs.Plans.{told}
+use Rattle.std.specs.List.{All}
 use Rattle.plan.specs.Rows.{Plan, Row, row}
 use Rattle.plan.specs.Rules.{Kept, member}
 use Rattle.plan.specs.Waits.{holds, latest_at, previous_of, waits_for}
@@ -13,10 +13,13 @@ use Rattle.date_check.specs.Sound.{dated, finish}
 use Rattle.date_check.specs.Verdict.{all_finished}
 
 -- The entries of a list are its members, and no others are.
+member_any : (xs : List ℕ) (j d : ℕ) → j < length xs → member (get_or xs j d) xs ≡ true
+member_any [] j d l = absurd (omega arith)
+member_any (x ∷ xs) zero d l = or_left (eqb x x) (member x xs) (eq-eqb x x refl)
+member_any (x ∷ xs) (suc j) d l = or_right (eqb x (get_or xs j d)) (member (get_or xs j d) xs) (member_any xs j d (omega arith))
+
 pub member_at : (xs : List ℕ) (j : ℕ) → j < length xs → member (get_or xs j 0) xs ≡ true
-member_at [] j l = absurd (omega arith)
-member_at (x ∷ xs) zero l = or_left (eqb x x) (member x xs) (eq-eqb x x refl)
-member_at (x ∷ xs) (suc j) l = or_right (eqb x (get_or xs j 0)) (member (get_or xs j 0) xs) (member_at xs j (omega arith))
+member_at xs j l = member_any xs j 0 l
 
 pub member_every : (P : ℕ → Type 0) (xs : List ℕ) → ((j : ℕ) → j < length xs → P (get_or xs j 0)) → (k : ℕ) → member k xs ≡ true → P k
 member_every P [] each k h = let z : ◌≡◌ {A = ℕ} 0 1 = cc in absurd (omega arith)
@@ -26,10 +29,12 @@ member_every P (x ∷ xs) each k h =
     (λ there. member_every P xs (λ j l. each (suc j) (omega arith)) k there)
     (or_cases (eqb x k) (member k xs) h)
 
--- What was told of a known row.
-pub told_is : {X : Type 0} (known : Bool) (x y : X) → known ≡ true → Ok y ≡ told known x → y ≡ x
-told_is true x y k e = cc
-told_is false x y k e = let z : ◌≡◌ {A = ℕ} 0 1 = cc in absurd (omega arith)
+-- A fact of all entries is a fact of all members.
+pub members_decide : (r : Bool) (P : ℕ → Type 0) (xs : List ℕ) → Decides r (All P xs) → Decides r ((k : ℕ) → member k xs ≡ true → P k)
+members_decide r P xs h = (λ e. member_every P xs (λ j l. h.0 e j 0 l), λ all. h.1 (λ j d l. all (get_or xs j d) (member_any xs j d l)))
+
+pub all_members : (P : ℕ → Type 0) (xs : List ℕ) → ((k : ℕ) → member k xs ≡ true → P k) → All P xs
+all_members P xs h j d l = h (get_or xs j d) (member_any xs j d l)
 
 pub latest_earlier : (rows : List Row) (place i : ℕ) → IfSome (latest_at rows place i) (λ k. k < i)
 latest_earlier rows place zero = tt
@@ -78,12 +83,10 @@ module _ (p : Plan) (kept : Kept p) (table : List Dates) (i : ℕ) (l : i < leng
         )
         all_finished_decides
 
--- One row, and none, that finishes by t.
-pub one_finished : (table : List Dates) (k f t : ℕ) → f ≡ finish (dated table k) → Decides (leb f t) ((j : ℕ) → holds (Some k) j ≡ true → finish (dated table j) ≤ t)
-one_finished table k f t e = (
-  λ before j h. omega (arith, leb-true f t before, ap (λ x. finish (dated table x)) (eqb-true k j h)),
-  λ h. le-leb f t (omega (arith, h k (eq-eqb k k refl))),
+-- The row before, if there is one, finishes by t.
+pub before_finished : (table : List Dates) (t : ℕ) (o : Option ℕ) (r : Bool) → MatchOption o (r ≡ true) (λ k. r ≡ leb (finish (dated table k)) t) → Decides r ((j : ℕ) → holds o j ≡ true → finish (dated table j) ≤ t)
+before_finished table t None r e = (λ yes j h. let z : ◌≡◌ {A = ℕ} 0 1 = cc in absurd (omega arith), λ h. e)
+before_finished table t (Some k) r e = (
+  λ yes j h. omega (arith, leb-true (finish (dated table k)) t (sym e ∙ yes), ap (λ x. finish (dated table x)) (eqb-true k j h)),
+  λ h. e ∙ le-leb (finish (dated table k)) t (h k (eq-eqb k k refl)),
 )
-
-pub none_finished : (table : List Dates) (t : ℕ) → Decides true ((j : ℕ) → holds None j ≡ true → finish (dated table j) ≤ t)
-none_finished table t = (λ e j h. let z : ◌≡◌ {A = ℕ} 0 1 = cc in absurd (omega arith), λ h. refl)

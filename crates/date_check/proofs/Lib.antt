@@ -1,4 +1,5 @@
 pub mod Reading
+pub mod Every
 pub mod Sums
 pub mod Counting
 pub mod Limits

@@ -1,18 +1,19 @@
 -- The verdict is yes exactly for sound dates.
 -- Assumes nothing.
-use Rattle.std.proofs.Common.{◌≡◌, ℕ, zero, suc, ◌+◌, ◌<◌, ◌≤◌, Bool, true, false, ◌&&◌, eqb, ltb, leb, List, [], ◌∷◌, length, get_or, drop, Ok, Err, Result, sym, refl, ap, ◌∙◌, inl, inr, add-one, arith}
-use Rattle.std.proofs.lemmas.List.{drop_more}
+use Rattle.std.proofs.Common.{◌≡◌, ℕ, zero, suc, ◌+◌, ◌<◌, ◌≤◌, Bool, true, false, ◌&&◌, eqb, ltb, leb, List, [], ◌∷◌, length, take, Ok, Err, Result, sym, refl, ap, ◌∙◌, inl, inr, add-one, arith}
+use Rattle.std.proofs.lemmas.List.{get_or-take, length-take-le}
 use Rattle.std.proofs.lemmas.Bool.{and_from, and_parts, cases_eq, eq-eqb, eqb-true, le-leb, leb-true, lt-ltb, ltb-true}
 use Rattle.std.specs.Result.{result_and}
 use Rattle.std.specs.List.{AllByRecursion}
 use Rattle.plan.specs.Rows.{Plan, row}
-use Rattle.plan.specs.Rules.{Kept, banks_of, places_of}
+use Rattle.plan.specs.Rules.{Kept, banks_of, places_of, period_of}
 use Rattle.arbiter.specs.Meaning.{Model}
 use Rattle.date_check.specs.declared.dates.Dates.{Dates}
 use Rattle.date_check.specs.declared.refusal.Refusal.{Refusal}
 use Rattle.date_check.specs.declared.refusal.Refusal.TheVariants.{NoTask, Arbiters, Table, Range, Early, Short, Late}
-use Rattle.date_check.specs.Sound.{Fits, Sound, dated, finish, period_of, worst}
+use Rattle.date_check.specs.Sound.{Fits, Sound, dated, finish, worst}
 use Rattle.date_check.specs.Verdict.{Exact, all_finished, all_in_range, all_wide, arbiters_fit, asked, in_range, on_time, questions, row_verdict, rows_verdict, verdict}
+use Rattle.date_check.proofs.Every.{below_passes}
 use Rattle.date_check.proofs.Finishing.{all_finished_decides}
 use Rattle.date_check.proofs.Reading.{short_period}
 
@@ -33,33 +34,27 @@ pub wide_all : {S : Type 0} (m : Model S) (places : ℕ) (arbiters : List S) →
 wide_all m places [] h = tt
 wide_all m places (a ∷ rest) h = let parts = and_parts (leb places (m.width a)) (all_wide m places rest) h in (leb-true places (m.width a) parts.0, wide_all m places rest parts.1)
 
--- The next arbiter decides with those behind it.
-pub wide_more : {S : Type 0} (m : Model S) (places : ℕ) (arbiters : List S) (j : ℕ) (a : S) → j < length arbiters → a ≡ get_or arbiters j a → all_wide m places (drop j arbiters) ≡ (leb places (m.width a) && all_wide m places (drop (j + 1) arbiters))
-wide_more m places arbiters j a l e = ap (all_wide m places) (drop_more arbiters j a l) ∙ ap (λ x. leb places (m.width x) && all_wide m places (drop (j + 1) arbiters)) (sym e)
-
 all_wide_yes : {S : Type 0} (m : Model S) (places : ℕ) (arbiters : List S) → AllByRecursion (λ a. places ≤ m.width a) arbiters → all_wide m places arbiters ≡ true
 all_wide_yes m places [] h = refl
 all_wide_yes m places (a ∷ rest) h = and_from (leb places (m.width a)) (all_wide m places rest) (le-leb places (m.width a) h.0) (all_wide_yes m places rest h.1)
 
+pub fit_facts : {S : Type 0} (m : Model S) (p : Plan) (arbiters : List S) → arbiters_fit m p arbiters ≡ true → (length arbiters ≡ banks_of p.head) × AllByRecursion (λ a. places_of p.head ≤ m.width a) arbiters
+fit_facts m p arbiters h =
+    let parts = and_parts (eqb (length arbiters) (banks_of p.head)) (all_wide m (places_of p.head) arbiters) h in
+    (eqb-true (length arbiters) (banks_of p.head) parts.0, wide_all m (places_of p.head) arbiters parts.1)
+
 all_in_range_yes : (table : List Dates) (n : ℕ) → ((i : ℕ) → i < n → in_range (dated table i) ≡ true) → all_in_range table n ≡ true
-all_in_range_yes table zero h = refl
-all_in_range_yes table (suc n) h = and_from (in_range (dated table n)) (all_in_range table n) (h n (omega arith)) (all_in_range_yes table n (λ i l. h i (omega arith)))
+all_in_range_yes table n h = below_passes (all_in_range table) (λ i. in_range (dated table i)) refl (λ i. refl) n h
 
-pub in_range_more : (table : List Dates) (n : ℕ) → all_in_range table n ≡ true → in_range (dated table n) ≡ true → all_in_range table (n + 1) ≡ true
-in_range_more table n h e = ap (all_in_range table) (add-one n) ∙ and_from (in_range (dated table n)) (all_in_range table n) e h
-
--- A row out of range is found.
-pub out_of_range : (table : List Dates) (n i : ℕ) → i < n → in_range (dated table i) ≡ false → all_in_range table n ≡ false
-out_of_range table zero i l e = absurd (omega arith)
-out_of_range table (suc n) i l e =
-    elim (cases_eq i n) [
-      | inl same ↦ ap (λ k. in_range (dated table k) && all_in_range table n) (sym same) ∙ ap (λ b. b && all_in_range table n) e
-      | inr apart ↦ ap (λ b. in_range (dated table n) && b) (out_of_range table n i (omega arith) e) ∙ no (in_range (dated table n))
-    ]
+-- The first n rows are in range, if they are as a table of their own.
+pub range_taken : (table : List Dates) (n : ℕ) → n ≤ length table → all_in_range (take n table) (length (take n table)) ≡ all_in_range table n
+range_taken table n enough = ap (all_in_range (take n table)) (length-take-le n table enough) ∙ below n (omega arith)
   where
-    no : (b : Bool) → (b && false) ≡ false
-    no true = refl
-    no false = refl
+    below : (i : ℕ) → i ≤ n → all_in_range (take n table) i ≡ all_in_range table i
+    below zero l = refl
+    below (suc i) l =
+        ap (λ d. in_range d && all_in_range (take n table) i) (get_or-take n table i _ (omega arith))
+        ∙ ap (λ b. in_range (dated table i) && b) (below i (omega arith))
 
 module _ {S : Type 0} (m : Model S) (p : Plan) (arbiters : List S) (table : List Dates) where
   -- One row more, and the first row that is refused.
@@ -146,11 +141,11 @@ module _ {S : Type 0} (m : Model S) (p : Plan) (arbiters : List S) (table : List
         let a = passed (ltb 0 (length p.rows)) NoTask _ h in
         let b = passed (arbiters_fit m p arbiters) Arbiters _ a.1 in
         let c = passed (leb (length p.rows) (length table)) Table _ b.1 in
-        let parts = and_parts (eqb (length arbiters) (banks_of p.head)) (all_wide m (places_of p.head) arbiters) b.0 in
+        let facts = fit_facts m p arbiters b.0 in
         record {
           some = ltb-true 0 (length p.rows) a.0;
-          one_per_bank = eqb-true (length arbiters) (banks_of p.head) parts.0;
-          wide = wide_all m (places_of p.head) arbiters parts.1;
+          one_per_bank = facts.0;
+          wide = facts.1;
           row_per_task = leb-true (length p.rows) (length table) c.0;
         }
 

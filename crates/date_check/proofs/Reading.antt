@@ -8,10 +8,9 @@ use Rattle.plan.specs.declared.rows.Head.{Head}
 use Rattle.plan.specs.declared.rows.Task.{Task}
 use Rattle.plan.specs.Plans.{closed}
 use Rattle.plan.specs.Rows.{Plan, accesses, row, row_of}
-use Rattle.plan.specs.Rules.{Kept, legal_heading, places_of}
+use Rattle.plan.specs.Rules.{Kept, legal_heading, places_of, latency_of, period_of}
 use Rattle.plan.proofs.Keeping.{known}
 use Rattle.plan.proofs.Views.{row_at}
-use Rattle.date_check.specs.Sound.{latency_of, period_of}
 
 pub kept_of : (plan : ClosedPlan) → Kept (closed plan)
 kept_of plan = known (closed plan) plan.kept

@@ -1,3 +1,5 @@
 pub mod Sound
 pub mod Verdict
 pub mod Keeping
+pub mod Fitting
+pub mod Cases

@@ -1,9 +1,8 @@
 -- When a table of dates is sound for a plan and its arbiters, one arbiter per bank.
-use Rattle.std.specs.Prelude.{◌≡◌, ℕ, ◌+◌, ◌*◌, ◌<◌, ◌≤◌, Bool, true, cond, not, ◌&&◌, List, [], ◌∷◌, map, length, Some, None, Option, ◌==◌, nat_lt, slice_index_or}
+use Rattle.std.specs.Prelude.{◌≡◌, ℕ, ◌+◌, ◌*◌, ◌<◌, ◌≤◌, Bool, true, cond, not, ◌&&◌, List, [], ◌∷◌, map, length, ◌==◌, nat_lt, slice_index_or}
 use Rattle.std.specs.List.{range_with_len, AllByRecursion}
-use Rattle.plan.specs.declared.rows.Head.{Head}
 use Rattle.plan.specs.Rows.{Plan, Row, accesses, row}
-use Rattle.plan.specs.Rules.{banks_of, places_of}
+use Rattle.plan.specs.Rules.{banks_of, latency_of, period_of, places_of}
 use Rattle.plan.specs.Waits.{waits_for}
 use Rattle.arbiter.specs.Counts.{sum_below}
 use Rattle.arbiter.specs.Meaning.{Model}
@@ -41,15 +40,6 @@ loads rows met bank = map (load rows met bank) (range_with_len 0 32)
 abbrev pub services : {S : Type 0} → Model S → List Row → (ℕ → Bool) → ℕ → ℕ → List S → ℕ
 services m rows met i bank [] = 0
 services m rows met i bank (a ∷ rest) = m.bound a (row rows i).place (accesses (row rows i) bank) (loads rows met bank) + services m rows met i (bank + 1) rest
-
--- A plan without a head has no latency and no period.
-abbrev pub latency_of : Option Head → ℕ
-latency_of None = 0
-latency_of (Some h) = h.latency
-
-abbrev pub period_of : Option Head → ℕ
-period_of None = 0
-period_of (Some h) = h.period
 
 -- What task i takes at most if these tasks are met: its cycles, and the latency of each service that its banks' bounds allow for.
 abbrev pub work : {S : Type 0} → Model S → Plan → List S → ℕ → (ℕ → Bool) → ℕ

@@ -1,14 +1,15 @@
 -- What the check answers: its questions, in their order.
-use Rattle.std.specs.Prelude.{◌≡◌, ℕ, zero, suc, Bool, true, cond, not, ◌&&◌, ◌||◌, List, [], ◌∷◌, length, Ok, Err, Result, ◌==◌, nat_le, nat_lt}
+use Rattle.std.specs.Prelude.{◌≡◌, ℕ, zero, suc, Bool, true, cond, not, ◌&&◌, ◌||◌, List, [], ◌∷◌, ◌++◌, length, Some, None, Ok, Err, Option, Result, codes, ◌==◌, nat_le, nat_lt}
+use Rattle.std.specs.Fmt.{decimal}
 use Rattle.std.specs.Result.{result_and}
 use Rattle.plan.specs.Rows.{Plan, Row, row}
-use Rattle.plan.specs.Rules.{banks_of, places_of}
+use Rattle.plan.specs.Rules.{banks_of, places_of, period_of}
 use Rattle.plan.specs.Waits.{waits_for}
 use Rattle.arbiter.specs.Meaning.{Model}
 use Rattle.date_check.specs.declared.dates.Dates.{Dates}
 use Rattle.date_check.specs.declared.refusal.Refusal.{Refusal}
 use Rattle.date_check.specs.declared.refusal.Refusal.TheVariants.{NoTask, Arbiters, Table, Range, Early, Short, Late}
-use Rattle.date_check.specs.Sound.{Fits, Sound, dated, finish, period_of, worst}
+use Rattle.date_check.specs.Sound.{Fits, Sound, dated, finish, worst}
 
 -- The number of a refusal.
 abbrev pub number_of : Refusal → ℕ
@@ -19,6 +20,24 @@ number_of Range = 5
 number_of (Early i) = 13
 number_of (Short i) = 14
 number_of (Late i) = 12
+
+-- The row that it names.
+abbrev pub row_of : Refusal → Option ℕ
+row_of NoTask = None
+row_of Arbiters = None
+row_of Table = None
+row_of Range = None
+row_of (Early i) = Some i
+row_of (Short i) = Some i
+row_of (Late i) = Some i
+
+-- How it is printed: its number, and the row where it names one.
+abbrev pub at_row : Option ℕ → List ℕ
+at_row None = []
+at_row (Some i) = codes " at row " ++ decimal i
+
+abbrev pub refusal_text : Refusal → List ℕ
+refusal_text f = decimal (number_of f) ++ at_row (row_of f)
 
 -- A question: without a yes it is refused, else the rest decides.
 abbrev pub asked : Bool → Refusal → Result (Unit {0}) Refusal → Result (Unit {0}) Refusal

@@ -4,7 +4,7 @@ ghost use Rattle.date_check.specs.Sound.{finish as finish_of, overlap};
 ghost use Rattle.date_check.specs.Verdict.{in_range};
 
 // When a task is released, and how long it may take from then on.
-#[derive(Clone, Copy, PartialEq, Eq, Debug)]
+#[derive(Clone, Copy, Default, PartialEq, Eq, Debug)]
 pub struct Dates {
     pub release: u32,
     pub response: u32,
@@ -28,7 +28,7 @@ impl Dates {
     }
 
     // Are both at most 1,000,000,000?
-    pub(crate) fn in_range(self) -> bool
+    pub fn is_in_range(self) -> bool
         ensures { result ≡ in_range self }
     {
         self.release <= LIMIT && self.response <= LIMIT

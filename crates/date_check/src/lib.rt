@@ -1,6 +1,7 @@
 // The check: are dates sound for a plan and its arbiters? It knows nothing of how they were found.
 #![tactic(auto)]
 
+mod case;
 mod checking;
 mod conditions;
 mod dates;
@@ -10,10 +11,10 @@ mod meeting;
 mod questions;
 mod refusal;
 mod releases;
-mod rows;
 mod worst;
 
 pub use checking::check;
 pub use dates::Dates;
 pub use keeping::soundness_keeps;
+pub use questions::arbiters_fit;
 pub use refusal::Refusal;

@@ -1,22 +1,23 @@
 // How much the tasks that meet a task load a bank.
-ghost use Rattle.std.specs.Prelude.{◌≡◌, ◌<◌, ◌≤◌, length};
-ghost use Rattle.plan.specs.Plans.{closed};
+ghost use Rattle.std.specs.Prelude.{◌≡◌, ◌<◌};
+ghost use Rattle.date_check.specs.Cases.{HasRow, plan_of};
 ghost use Rattle.date_check.specs.Sound.{loads, meets};
 
-use crate::dates::Dates;
-use crate::meeting::tasks_meet;
-use plan::closed::ClosedPlan;
+use crate::case::Case;
+use arbiter::Arbiter;
 
-// The accesses to a bank of all tasks that meet task i, added up by place.
-pub(crate) fn count_loads(plan: &ClosedPlan, dates: &[Dates], i: usize, bank: usize) -> [u64; 32]
-    requires { (i < length (closed plan.now).rows) × ((length (closed plan.now).rows ≤ length dates.now) × (bank < 16)) }
-    ensures { result ≡ loads (closed plan.now).rows (meets (closed plan.now).rows dates.now i) bank }
-{
-    let mut counts = [0; 32];
-    for (k, task) in plan.tasks().iter().enumerate() {
-        if tasks_meet(plan, dates, i, k) {
-            counts[task.place] += task.demands[bank];
+impl<A: Arbiter> Case<'_, A> {
+    // The accesses to a bank of all tasks that meet task i, added up by place.
+    pub(crate) fn count_loads(&self, i: usize, bank: usize) -> [u64; 32]
+        requires { (HasRow self.now i) × (bank < 16) }
+        ensures { result ≡ loads (plan_of self.now).rows (meets (plan_of self.now).rows self.now.dates.now i) bank }
+    {
+        let mut counts = [0; 32];
+        for (k, task) in self.plan.tasks().iter().enumerate() {
+            if self.meet(i, k) {
+                counts[task.place] += task.demands[bank];
+            }
         }
+        counts
     }
-    counts
 }

@@ -1,16 +1,17 @@
 // Which tasks meet.
-ghost use Rattle.std.specs.Prelude.{◌≡◌, ◌<◌, ◌≤◌, length};
-ghost use Rattle.plan.specs.Plans.{closed};
+ghost use Rattle.std.specs.Prelude.{◌≡◌, ◌<◌};
+ghost use Rattle.date_check.specs.Cases.{HasRow, plan_of};
 ghost use Rattle.date_check.specs.Sound.{meets};
 
-use crate::dates::Dates;
-use crate::rows::task_at;
-use plan::closed::ClosedPlan;
+use crate::case::Case;
+use arbiter::Arbiter;
 
-// Are tasks i and k at different places, each released before the other's finish?
-pub(crate) fn tasks_meet(plan: &ClosedPlan, dates: &[Dates], i: usize, k: usize) -> bool
-    requires { (i < length (closed plan.now).rows) × ((k < length (closed plan.now).rows) × (length (closed plan.now).rows ≤ length dates.now)) }
-    ensures { result ≡ meets (closed plan.now).rows dates.now i k }
-{
-    task_at(plan, i).place != task_at(plan, k).place && dates[i].overlaps(dates[k])
+impl<A: Arbiter> Case<'_, A> {
+    // Are tasks i and k at different places, each released before the other's finish?
+    pub(crate) fn meet(&self, i: usize, k: usize) -> bool
+        requires { (HasRow self.now i) × (HasRow self.now k) }
+        ensures { result ≡ meets (plan_of self.now).rows self.now.dates.now i k }
+    {
+        self.task(i).place != self.task(k).place && self.dates[i].overlaps(self.dates[k])
+    }
 }

@@ -1,6 +1,9 @@
 // Why the check refuses dates.
-ghost use Rattle.std.specs.Prelude.{◌≡◌};
-ghost use Rattle.date_check.specs.Verdict.{number_of};
+ghost use Rattle.std.specs.Prelude.{◌≡◌, Some};
+ghost use Rattle.date_check.specs.Verdict.{number_of, refusal_text, row_of};
+
+use std::error::Error;
+use std::fmt;
 
 #[derive(Clone, Copy, PartialEq, Eq, Debug)]
 pub enum Refusal {
@@ -35,4 +38,28 @@ impl Refusal {
             Refusal::Late(_) => 12,
         }
     }
+
+    // The row that the refusal names.
+    pub fn row(self) -> Option<usize>
+        ensures { result ≡ row_of self }
+    {
+        match self {
+            Refusal::Early(row) | Refusal::Short(row) | Refusal::Late(row) => Some(row),
+            Refusal::NoTask | Refusal::Arbiters | Refusal::Table | Refusal::Range => None,
+        }
+    }
 }
+
+// The number, and the row where the refusal names one: "9", "14 at row 3".
+impl fmt::Display for Refusal {
+    ghost output = { λ refusal. Some (refusal_text refusal) };
+
+    fn fmt<W: fmt::Write>(&self, f: &mut fmt::Formatter<W>) -> fmt::Result {
+        match self.row() {
+            Some(row) => write!(f, "{} at row {row}", self.number()),
+            None => write!(f, "{}", self.number()),
+        }
+    }
+}
+
+impl Error for Refusal {}

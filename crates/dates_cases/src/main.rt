@@ -7,14 +7,10 @@ mod comparing;
 
 use std::fs;
 
-fn run(rt: &HostRuntime) -> anyhow::Result<()> {
+fn main(rt: HostRuntime) -> anyhow::Result<()> {
     for file in ["worked.txt", "sheets.txt"] {
-        let bytes = fs::read(rt, file)?;
-        comparing::compare_all(rt, file, bytes.as_slice())?;
+        let bytes = fs::read(&rt, file)?;
+        comparing::compare_all(&rt, file, bytes.as_slice())?;
     }
     Ok(())
-}
-
-fn main(rt: HostRuntime) -> anyhow::Result<()> {
-    run(&rt)
 }

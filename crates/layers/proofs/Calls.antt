@@ -1,18 +1,16 @@
 -- What the calls of a pair answer.
-use Rattle.std.proofs.Common.{◌≡◌, ℕ, ◌+◌, ◌-◌, ◌<◌, ◌≤◌, Bool, true, false, cond, ◌&&◌, ltb, Some, None, Ok, Err, Option, Result, sym, refl, ap, ◌∙◌, subst, inl, inr, arith}
-use Rattle.std.proofs.lemmas.Bool.{cases_lt, cases_Bool, both_ways, lt-ltb, le-ltb, and_parts, and_cases, and_left}
+use Rattle.std.proofs.Common.{◌≡◌, ℕ, ◌+◌, ◌-◌, ◌<◌, ◌≤◌, Bool, true, false, ◌&&◌, Some, None, Ok, Err, Option, Result, sym, refl, ap, ◌∙◌, subst, inl, inr, arith}
+use Rattle.std.proofs.lemmas.Bool.{cases_lt, cases_Bool, both_ways, and_parts, and_cases, and_left}
 use Rattle.arbiter.specs.declared.refusal.Refusal.{Refusal}
-use Rattle.arbiter.specs.declared.refusal.Refusal.TheVariants.{Unknown, Waiting}
-use Rattle.arbiter.specs.Answers.{someone, post_answer, AfterPost, AfterPick}
+use Rattle.arbiter.specs.Answers.{someone, AfterPost, AfterPick}
 use Rattle.arbiter.specs.Meaning.{Model}
-use Rattle.arbiter.specs.Laws.{Steps}
 use Rattle.arbiter.proofs.Someone.{someone_at, no_one, the_one, nobody_at}
 use Rattle.layers.specs.declared.pair.Pair.{Pair}
 use Rattle.layers.specs.Pairs.{fits, pair_width, pair_waiting, first_waits, second_waits, to_second, Drawn, AfterPairPost, AfterDraw}
 use Rattle.layers.specs.Layers.{Formula, layer}
 use Rattle.layers.specs.PairFacts.{width_fits, first_le, waits_first, waits_past, waits_second, Leads}
 
-module _ {L R : Type 0} (l : Model L) (r : Model R) (ll : Steps l) (rr : Steps r) where
+module _ {L R : Type 0} (l : Model L) (r : Model R) where
   pub anyone_first : (a : Pair L R) → first_waits l r a ≡ true → someone (pair_width l r a) (pair_waiting l r a) ≡ true
   anyone_first a h =
       let w = the_one (l.width a.first) (l.waiting a.first) h in
@@ -44,17 +42,6 @@ module _ {L R : Type 0} (l : Model L) (r : Model R) (ll : Steps l) (rr : Steps r
 
       nobody : second_waits l r a ≡ false → someone (pair_width l r a) (pair_waiting l r a) ≡ false
       nobody e = no_one (pair_width l r a) (pair_waiting l r a) (λ o i. none o e i)
-
-  pub sum_fits : (a : Pair L R) (o : ℕ) (b : R) → r.picked a.second o b → l.width a.first + o ≤ 64
-  sum_fits a o b h = omega (arith, ll.width_limits a.first, rr.width_limits a.second, rr.waiting_below a.second o (rr.pick_shows a.second b o h).waited)
-
-  pub taken_second : (a : Pair L R) (s : ℕ) → fits l r a ≡ true → l.width a.first ≤ s → post_answer (r.width a.second) (r.waiting a.second) (s - l.width a.first) ≡ post_answer (pair_width l r a) (pair_waiting l r a) s
-  taken_second a s f h =
-      let n : ℕ = l.width a.first in
-      elim (cases_lt s (pair_width l r a)) [
-        | inl i ↦ ap (λ x. cond x (cond (r.waiting a.second (s - n)) (Err Waiting) (Ok tt)) (Err Unknown)) (lt-ltb (s - n) (r.width a.second) (omega (arith, width_fits l r a f)) ∙ sym (lt-ltb s (pair_width l r a) i)) ∙ ap (λ x. cond (ltb s (pair_width l r a)) (cond x (Err Waiting) (Ok tt)) (Err Unknown)) (sym (waits_second l r a s f h))
-        | inr i ↦ ap (λ x. cond x (cond (r.waiting a.second (s - n)) (Err Waiting) (Ok tt)) (Err Unknown)) (le-ltb (s - n) (r.width a.second) (omega (arith, width_fits l r a f)) ∙ sym (le-ltb s (pair_width l r a) i)) ∙ ap (λ x. cond (ltb s (pair_width l r a)) (cond x (Err Waiting) (Ok tt)) (Err Unknown)) (sym (waits_second l r a s f h))
-      ]
 
   pub posted_second : (a : Pair L R) (s : ℕ) (y : R) (e : Result (Unit {0}) Refusal) → fits l r a ≡ true → l.width a.first ≤ s → AfterPost r a.second (s - l.width a.first) y e → AfterPairPost l r a s record { first = a.first; second = y; latest = a.latest } e
   posted_second a s y (Ok u) f h p = to_second (s - l.width a.first) f (omega arith) p refl refl

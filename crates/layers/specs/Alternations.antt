@@ -1,11 +1,11 @@
 -- Alternation: the sides take turns.
 use Rattle.std.specs.Prelude.{◌+◌, min, Bool, not, ◌&&◌}
-use Rattle.arbiter.specs.Held.{held, held_moves}
-use Rattle.arbiter.specs.Meaning.{Model, Moves}
+use Rattle.arbiter.specs.Held.{held}
+use Rattle.arbiter.specs.Meaning.{Model}
 use Rattle.layers.specs.declared.alternation.Alternation.{Alternation}
 use Rattle.layers.specs.declared.pair.Pair.{Pair}
-use Rattle.layers.specs.Pairs.{new_pair, is_first, pair_waiting, pair_last, first_waits, second_waits}
-use Rattle.layers.specs.Layers.{Formula, layer_moves}
+use Rattle.layers.specs.Pairs.{new_pair, is_first, first_waits, second_waits}
+use Rattle.layers.specs.Layers.{Formula, layer}
 
 -- The sides as they are, and none picked from yet.
 abbrev pub new_alternation : {L R : Type 0} → L → R → Alternation L R
@@ -21,8 +21,5 @@ module _ {L R : Type 0} (l : Model L) (r : Model R) where
   alternates a = first_waits l r a && not (is_first a.latest && second_waits l r a)
 
   -- What an alternation of left l and right r means.
-  abbrev pub alternation_moves : Moves (Alternation L R)
-  alternation_moves = held_moves (λ a. a.pair) (layer_moves l r alternates alternating)
-
   abbrev pub alternation : Model (Alternation L R)
-  alternation = held (λ a. a.pair) (pair_waiting l r) (pair_last l r) (layer_moves l r alternates alternating)
+  alternation = held (λ a. a.pair) (layer l r alternates alternating)

@@ -1,9 +1,9 @@
 -- Where the bound of a layer is accepted, so is that of the source's side, and it is small.
-use Rattle.std.proofs.Common.{◌≡◌, ℕ, zero, suc, ◌+◌, ◌-◌, ◌*◌, ◌<◌, ◌≤◌, Bool, true, cond, List, length, get_or, IfOk, Ok, Result, sym, ap, ◌∙◌, subst, inl, inr, arith}
+use Rattle.std.proofs.Common.{◌≡◌, ℕ, zero, suc, ◌+◌, ◌-◌, ◌*◌, ◌<◌, ◌≤◌, Bool, cond, List, get_or, IfOk, Ok, Result, sym, ap, ◌∙◌, subst, inl, inr, arith}
 use Rattle.std.proofs.lemmas.Bool.{cases_eq, cases_lt, eq-eqb, ne_eqb, lt-ltb, le-ltb}
 use Rattle.std.specs.Result.{result_and}
 use Rattle.arbiter.specs.declared.refusal.Refusal.{Refusal}
-use Rattle.arbiter.specs.Counts.{sum_below, counted, limit, all_within}
+use Rattle.arbiter.specs.Counts.{sum_below, counted, limit, AreCounts}
 use Rattle.arbiter.specs.Answers.{Accepts, accept_answer, bound_answer}
 use Rattle.arbiter.specs.Meaning.{Model}
 use Rattle.arbiter.specs.Laws.{Lawful}
@@ -14,7 +14,7 @@ use Rattle.layers.specs.Bounds.{shifted, side_bound}
 use Rattle.layers.specs.Shifts.{shifted_at, shifted_length}
 use Rattle.layers.specs.PairFacts.{past}
 
-sum_limit : (n : ℕ) (f : ℕ → ℕ) → ((o : ℕ) → f o ≤ limit) → sum_below n f ≤ limit * n
+pub sum_limit : (n : ℕ) (f : ℕ → ℕ) → ((o : ℕ) → f o ≤ limit) → sum_below n f ≤ limit * n
 sum_limit zero f h = omega arith
 sum_limit (suc n) f h = omega (arith, h n, sum_limit n f h)
 
@@ -58,12 +58,12 @@ module _ {L R : Type 0} (l : Model L) (r : Model R) (ll : Lawful l) (rr : Lawful
 
   -- What the side of s answers is what the pair answers, and it is small, as are the counts.
   abbrev pub SideAnswer : Result ℕ Refusal → Type 0
-  SideAnswer e = (e ≡ bound_answer (pair_width l r a) (side_bound l r a) s own xs) × IfOk e (λ b. (b ≤ 33 * limit) × (length xs ≡ 32) × (all_within xs ≡ true))
+  SideAnswer e = (e ≡ bound_answer (pair_width l r a) (side_bound l r a) s own xs) × IfOk e (λ b. (b ≤ 33 * limit) × AreCounts xs)
 
   side_answer : SideAnswer (Ok (side_bound l r a s own xs))
   side_answer =
       let k = acceptance (pair_width l r a) s own xs ok in
-      (sym (ap (λ e. result_and e (Ok (side_bound l r a s own xs))) ok), (side_limit, k.full, within xs (λ o i. k.each o)))
+      (sym (ap (λ e. result_and e (Ok (side_bound l r a s own xs))) ok), (side_limit, record { full = k.full; within = within xs (λ o i. k.each o) }))
 
   -- The side's bound among both: the first's, or the second's.
   abbrev by_side : Bool → Result ℕ Refusal

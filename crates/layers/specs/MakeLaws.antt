@@ -9,8 +9,8 @@ use Rattle.arbiter.proofs.HeldLaws.{held_lawful}
 use Rattle.arbiter.proofs.Services.{idle_delay}
 use Rattle.arbiter.proofs.Someone.{someone_at, the_one, nobody_at}
 use Rattle.layers.specs.declared.pair.Pair.{Pair}
-use Rattle.layers.specs.Pairs.{fits, pair_width, pair_waiting, pair_last, is_first, first_waits, second_waits}
-use Rattle.layers.specs.Layers.{layer, layer_moves}
+use Rattle.layers.specs.Pairs.{fits, pair_width, pair_waiting, is_first, first_waits, second_waits}
+use Rattle.layers.specs.Layers.{layer}
 use Rattle.layers.specs.Alone.{Alone}
 use Rattle.layers.specs.declared.alternation.Alternation.{Alternation}
 use Rattle.layers.specs.declared.precedence.Precedence.{Precedence}
@@ -89,10 +89,10 @@ module _ {L R : Type 0} (l : Model L) (r : Model R) (ll : Lawful l) (rr : Lawful
 
   -- An alternation and a precedence of lawful sides are lawful.
   pub alternation_keeps : Lawful (alternation l r)
-  alternation_keeps = held_lawful {T = Alternation L R} (λ a. a.pair) (λ p. record { pair = p }) (λ p. refl) (pair_waiting l r) (pair_last l r) (layer_moves l r (alternates l r) alternating) alternation_lawful
+  alternation_keeps = held_lawful {T = Alternation L R} (λ a. a.pair) (λ p. record { pair = p }) (λ p. refl) (layer l r (alternates l r) alternating) alternation_lawful
 
   pub precedence_keeps : Lawful (precedence l r)
-  precedence_keeps = held_lawful {T = Precedence L R} (λ a. a.pair) (λ p. record { pair = p }) (λ p. refl) (pair_waiting l r) (pair_last l r) (layer_moves l r (precedes l r) preceding) precedence_lawful
+  precedence_keeps = held_lawful {T = Precedence L R} (λ a. a.pair) (λ p. record { pair = p }) (λ p. refl) (layer l r (precedes l r) preceding) precedence_lawful
 
   pub alternation_too_wide : (a : Pair L R) → 32 < l.width a.first + r.width a.second → Alone l (λ x. x.first) (layer l r (alternates l r) alternating) a
   alternation_too_wide = too_wide l r (alternates l r) alternating ll rr alternates_leads alternating_laws

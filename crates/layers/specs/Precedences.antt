@@ -1,11 +1,11 @@
 -- Precedence: the second side, the high one, goes first.
 use Rattle.std.specs.Prelude.{◌+◌, min, Bool, true, false, cond, not, ◌==◌}
-use Rattle.arbiter.specs.Held.{held, held_moves}
-use Rattle.arbiter.specs.Meaning.{Model, Moves}
+use Rattle.arbiter.specs.Held.{held}
+use Rattle.arbiter.specs.Meaning.{Model}
 use Rattle.layers.specs.declared.precedence.Precedence.{Precedence}
 use Rattle.layers.specs.declared.pair.Pair.{Pair}
-use Rattle.layers.specs.Pairs.{new_pair, pair_waiting, pair_last, second_waits}
-use Rattle.layers.specs.Layers.{Formula, layer_moves}
+use Rattle.layers.specs.Pairs.{new_pair, second_waits}
+use Rattle.layers.specs.Layers.{Formula, layer}
 
 -- The sides as they are, and none picked from yet.
 abbrev pub new_precedence : {L R : Type 0} → L → R → Precedence L R
@@ -22,8 +22,5 @@ module _ {L R : Type 0} (l : Model L) (r : Model R) where
   precedes a = not (second_waits l r a)
 
   -- What a precedence of low l and high r means.
-  abbrev pub precedence_moves : Moves (Precedence L R)
-  precedence_moves = held_moves (λ a. a.pair) (layer_moves l r precedes preceding)
-
   abbrev pub precedence : Model (Precedence L R)
-  precedence = held (λ a. a.pair) (pair_waiting l r) (pair_last l r) (layer_moves l r precedes preceding)
+  precedence = held (λ a. a.pair) (layer l r precedes preceding)

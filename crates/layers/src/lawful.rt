@@ -1,7 +1,7 @@
 // Layers are lawful over any two arbiters, and a layer that is too wide is its first side alone.
+// Two functions, as each names the layer that it promises this of.
 ghost use Rattle.std.specs.Prelude.{◌≡◌, true};
 ghost use Rattle.arbiter.specs.Laws.{Lawful};
-ghost use Rattle.arbiter.specs.Given.{model};
 ghost use Rattle.layers.specs.Alone.{AloneWhereTooWide};
 ghost use Rattle.layers.specs.Alternations.{alternation};
 ghost use Rattle.layers.specs.Precedences.{precedence};
@@ -9,36 +9,20 @@ ghost use Rattle.layers.specs.Precedences.{precedence};
 use crate::{Alternation, Precedence};
 use arbiter::{Arbiter, laws};
 
-// An alternation that is too wide is its left side.
-fn left_alone<L: Arbiter, R: Arbiter>(_layer: &Alternation<L, R>) -> bool
-    ensures answer { result ≡ true }
-    ensures alone { AloneWhereTooWide (model L.Arbiter) (model R.Arbiter) (λ a. a.pair) (alternation (model L.Arbiter) (model R.Arbiter)) }
-{
-    true
-}
-
-// A precedence that is too wide is its low side.
-fn low_alone<L: Arbiter, R: Arbiter>(_layer: &Precedence<L, R>) -> bool
-    ensures answer { result ≡ true }
-    ensures alone { AloneWhereTooWide (model L.Arbiter) (model R.Arbiter) (λ a. a.pair) (precedence (model L.Arbiter) (model R.Arbiter)) }
-{
-    true
-}
-
 // Always true; its promise is that an alternation keeps the laws, whatever arbiters its sides are.
-pub fn alternation_laws<L: Arbiter, R: Arbiter>(layer: &Alternation<L, R>) -> bool
+pub fn alternation_laws<L: Arbiter, R: Arbiter>(a: &Alternation<L, R>) -> bool
     ensures answer { result ≡ true }
-    ensures lawful { Lawful (alternation (model L.Arbiter) (model R.Arbiter)) }
-    ensures alone { AloneWhereTooWide (model L.Arbiter) (model R.Arbiter) (λ a. a.pair) (alternation (model L.Arbiter) (model R.Arbiter)) }
+    ensures lawful { Lawful (alternation L.model R.model) }
+    ensures alone { AloneWhereTooWide L.model R.model (λ a. a.pair) (alternation L.model R.model) }
 {
-    laws(layer) && left_alone(layer)
+    laws(a)
 }
 
 // Always true; its promise is that a precedence keeps the laws, whatever arbiters its sides are.
-pub fn precedence_laws<L: Arbiter, R: Arbiter>(layer: &Precedence<L, R>) -> bool
+pub fn precedence_laws<L: Arbiter, R: Arbiter>(p: &Precedence<L, R>) -> bool
     ensures answer { result ≡ true }
-    ensures lawful { Lawful (precedence (model L.Arbiter) (model R.Arbiter)) }
-    ensures alone { AloneWhereTooWide (model L.Arbiter) (model R.Arbiter) (λ a. a.pair) (precedence (model L.Arbiter) (model R.Arbiter)) }
+    ensures lawful { Lawful (precedence L.model R.model) }
+    ensures alone { AloneWhereTooWide L.model R.model (λ a. a.pair) (precedence L.model R.model) }
 {
-    laws(layer) && low_alone(layer)
+    laws(p)
 }

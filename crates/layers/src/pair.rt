@@ -2,7 +2,7 @@
 mod bounds;
 mod calls;
 
-#[derive(Clone, Copy)]
+#[derive(Clone, Copy, PartialEq, Eq)]
 pub enum Side {
     First,
     Second,

@@ -1,3 +1,2 @@
 mod Aligns
-mod Lengths
 mod Writes

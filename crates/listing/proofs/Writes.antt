@@ -1,32 +1,27 @@
--- Texts written one behind the other.
-use Rattle.std.proofs.Common.{◌≡◌, ℕ, ◌+◌, ◌-◌, ◌≤◌, List, [], ◌++◌, length, take, drop, sym, refl, ap, ◌∙◌, arith, length-append}
+-- Texts written one behind the other: each at the front of the rest of the memory.
+use Rattle.std.proofs.Common.{◌≡◌, ℕ, ◌+◌, ◌-◌, ◌≤◌, List, [], ◌++◌, length, take, drop, sym, ap, ◌∙◌, arith, length-append, length-drop, append_assoc, append-nil, drop-drop}
 use borrow.Rule.Slice.PartMut.{put_mid}
-use lib.Seq.{paste}
-use Rattle.std.proofs.lemmas.List.{take-append-drop}
-use Rattle.std.proofs.lemmas.Slice.{put_mid-paste}
-use Rattle.std.proofs.lemmas.List.Edits.{paste-paste, paste_all}
-use Rattle.listing.specs.Memory.{Written}
+use Rattle.std.proofs.lemmas.List.{drop_all, drop_at, take_all, take_at}
+use Rattle.listing.specs.Memory.{AtFront}
 
-from_paste : (m text m' : List ℕ) (at n : ℕ) → n ≡ length text → m' ≡ paste m at text n → Written m at text m' (at + n)
-from_paste m text m' at n size e = record { memory = e ∙ paste_all m at text n size; place = ap (λ k. at + k) size }
+module _ {s m m' : List ℕ} {n : ℕ} (fits : n ≤ length m) (v : AtFront s m n m') where
+  rest : drop n m' ≡ drop n m
+  rest = ap (drop n) v.memory ∙ drop_at s (drop n m) n (sym v.size)
 
-to_paste : {m text m' : List ℕ} {at end : ℕ} → Written m at text m' end → m' ≡ paste m at text (length text)
-to_paste {m} {text} {m'} {at} {end} w =
-    w.memory ∙ ap (λ e. take at m ++ (text ++ drop e m)) w.place ∙ sym (paste_all m at text (length text) refl)
+  whole : take (length m' - n) (drop n m') ≡ drop n m
+  whole = take_all (length m' - n) (drop n m') (omega (arith, length-drop n m')) ∙ rest
 
--- a part of the memory has been replaced by a text of its length
-pub replaced : (m part text : List ℕ) (at n : ℕ) → part ≡ text → n ≡ length text → Written m at text (put_mid at ((at + n) - at) m part) (at + n)
-replaced m part text at n e size = from_paste m text _ at n size (put_mid-paste at _ m part text n e (omega arith) size)
+  -- what is left of the memory
+  pub room : length (take (length m' - n) (drop n m')) ≡ length m - n
+  room = ap length whole ∙ length-drop n m
 
--- a text behind a text is the two at once
-pub behind : {m s m' t m'' : List ℕ} {at mid end : ℕ} → at ≤ length m → Written m at s m' mid → Written m' mid t m'' end → Written m at (s ++ t) m'' end
-behind {m} {s} {m'} {t} {m''} {at} {mid} {end} inside v w =
-    let both = paste-paste m at s t (length s) (length t) refl refl inside in
-    let e : m'' ≡ paste m at (s ++ t) (length s + length t) =
-    to_paste w ∙ ap (λ x. paste x mid t (length t)) (to_paste v) ∙ ap (λ i. paste (paste m at s (length s)) i t (length t)) v.place ∙ both in
-    let p : end ≡ at + (length s + length t) = omega (arith, v.place, w.place) in
-    rw p (from_paste m (s ++ t) m'' at (length s + length t) (sym (length-append s t)) e)
-
--- the empty text leaves the memory as it is
-pub nothing : (m : List ℕ) (at : ℕ) → Written m at [] m at
-nothing m at = record { memory = sym (take-append-drop at m); place = omega arith }
+  -- A text behind a text is the two at once.
+  pub behind : {t r : List ℕ} {k : ℕ} → AtFront t (take (length m' - n) (drop n m')) k r → AtFront (s ++ t) m (n + k) (put_mid n (length m' - n) m' r)
+  behind {t} {r} {k} w =
+      let front : take n m' ≡ s = ap (take n) v.memory ∙ take_at s (drop n m) n (sym v.size) in
+      let end : drop (length m' - n) (drop n m') ≡ [] = drop_all (length m' - n) (drop n m') (omega (arith, length-drop n m')) in
+      let back : r ≡ t ++ drop (n + k) m = w.memory ∙ ap (λ x. t ++ drop k x) whole ∙ ap (λ x. t ++ x) (drop-drop k n m) in
+      record {
+        size = omega (arith, length-append s t, v.size, w.size);
+        memory = rw (front, end, back) (simp (append-nil, append_assoc));
+      }

@@ -1,3 +1,4 @@
 pub mod Aligned
 pub mod Listing
 pub mod Memory
+pub mod Parts

@@ -16,9 +16,13 @@ abbrev pub row_lines : ℕ → List Row → List ℕ
 row_lines row [] = []
 row_lines row (r ∷ rs) = row_line row r ++ row_lines (row + 1) rs
 
+-- the line of the rounds
+abbrev pub rounds_line : ℕ → List ℕ
+rounds_line rounds = codes "G" ++ column 10 rounds ++ codes "\n"
+
 -- granted dates: the line of the rounds, and then a line for each task
 abbrev pub granted : ℕ → List Row → List ℕ
-granted rounds rows = codes "G" ++ column 10 rounds ++ codes "\n" ++ row_lines 0 rows
+granted rounds rows = rounds_line rounds ++ row_lines 0 rows
 
 -- a late plan: the late row and its finish
 abbrev pub late : ℕ → ℕ → List ℕ

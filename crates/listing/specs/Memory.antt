@@ -1,5 +1,5 @@
 -- What writing a text into memory does to it.
-use Rattle.std.specs.Prelude.{◌≡◌, ℕ, ◌+◌, ◌^◌, ◌<◌, ◌≤◌, List, ◌++◌, length, take, drop, Ok, Err, Option, Result}
+use Rattle.std.specs.Prelude.{◌≡◌, ℕ, ◌^◌, ◌<◌, ◌≤◌, List, ◌++◌, length, drop, Ok, Err, Option, Result}
 use Rattle.std.specs.Option.{SomeIff}
 use Rattle.listing.specs.declared.answer.Short.{Short}
 
@@ -17,7 +17,7 @@ abbrev pub Listed : List ℕ → List ℕ → Result ℕ Short → List ℕ → 
 Listed text before (Ok n) after = (length text ≤ length before) × (n ≡ length text) × (after ≡ text ++ drop n before)
 Listed text before (Err e) after = (length before < length text) × (after ≡ before)
 
--- a text was written at a place of the memory, `end` is the place behind it, and all else is as it was
-pub record Written (before : List ℕ) (at : ℕ) (text : List ℕ) (after : List ℕ) (end : ℕ) : Type 0 where
-  pub memory : after ≡ take at before ++ (text ++ drop end before)
-  pub place : end ≡ at + length text
+-- a text was written at the front of the memory, n is its length, and all behind it is as it was
+pub record AtFront (text before : List ℕ) (n : ℕ) (after : List ℕ) : Type 0 where
+  pub size : n ≡ length text
+  pub memory : after ≡ text ++ drop n before

@@ -21,6 +21,7 @@ pub enum Answer<'r, 'n> {
         row: usize,
         finish: u64,
     },
+    // The number is that of any crate's refusal; a listing prints it. With line and column it is no fault of the reader's, which has a cause.
     Fault {
         number: u32,
         line: usize,

@@ -2,12 +2,13 @@
 #![tactic(auto)]
 
 mod answer;
-mod columns;
 mod lines;
+mod parts;
 mod sizes;
 #[cfg(test)]
 mod tests;
+mod writing;
 
 pub use answer::{Answer, Row, Short};
-pub use lines::list;
 pub use sizes::size;
+pub use writing::list;

@@ -1,18 +1,6 @@
 // Listings compared byte for byte with texts written from the rules, and memory that is one byte short.
 use crate::{Answer, Row, Short, list, size};
 
-fn late(row: usize, finish: u64) -> Answer<'static, 'static> {
-    Answer::Late { row, finish }
-}
-
-fn fault(number: u32, line: usize, column: usize) -> Answer<'static, 'static> {
-    Answer::Fault {
-        number,
-        line,
-        column,
-    }
-}
-
 #[test]
 fn lists_granted_dates(rt: HostRuntime) {
     let rows = [
@@ -55,20 +43,29 @@ fn lists_granted_dates(rt: HostRuntime) {
 #[test]
 fn lists_a_late_plan(rt: HostRuntime) {
     let mut memory = [b'#'; 30];
-    assert_eq!(rt; list(&mut memory, &late(0, 10)), Ok(28));
+    let answer = Answer::Late { row: 0, finish: 10 };
+    assert_eq!(rt; list(&mut memory, &answer), Ok(28));
     assert_eq!(rt; &memory, b"L         0              10\n##");
 }
 
 #[test]
 fn lists_a_fault(rt: HostRuntime) {
     let mut memory = [b'#'; 32];
-    assert_eq!(rt; list(&mut memory, &fault(3, 12, 32)), Ok(32));
+    let answer = Answer::Fault {
+        number: 3,
+        line: 12,
+        column: 32,
+    };
+    assert_eq!(rt; list(&mut memory, &answer), Ok(32));
     assert_eq!(rt; &memory, b"F         3        12        32\n");
 }
 
 #[test]
 fn refuses_one_byte_less(rt: HostRuntime) {
-    let answer = late(255, 9_999_999_999_999_999);
+    let answer = Answer::Late {
+        row: 255,
+        finish: 9_999_999_999_999_999,
+    };
     assert_eq!(rt; size(&answer), Some(28));
     let mut memory = [b'#'; 27];
     assert_eq!(rt; list(&mut memory, &answer), Err(Short));

@@ -1,14 +1,18 @@
 -- How far the loading of a sheet has come, line by line.
 -- Assumes nothing.
-use Rattle.std.proofs.Common.{◌≡◌, ℕ, ◌+◌, ◌<◌, ◌≤◌, List, [], ◌∷◌, ◌++◌, length, take, drop, Some, None, Ok, Err, Result, sym, refl, ap, ◌∙◌, subst, ⊎_elim, arith, length-drop}
+use Rattle.std.proofs.Common.{◌≡◌, ℕ, ◌+◌, ◌<◌, ◌≤◌, List, [], ◌∷◌, ◌++◌, length, take, drop, Some, None, Ok, Err, Option, Result, sym, refl, ap, ◌∙◌, subst, ⊎_elim, arith, length-drop}
 use Rattle.std.proofs.lemmas.List.{drop_more, flat_map_more, take_all, take_more}
 use Rattle.std.proofs.lemmas.List.Sums.{fold_push}
+use Rattle.std.specs.Result.{IsErrAnd, MatchResult}
 use Rattle.plan.specs.Rows.{Plan}
 use Rattle.plan.specs.declared.rows.Refusal.{Refusal}
 use Rattle.sheet.specs.Lines.{parsed, then}
-use Rattle.sheet.specs.Reading.{Reading, answer_after, continued, fault_after, next_row}
-use Rattle.sheet.specs.Rows.{Row, dependency}
+use Rattle.sheet.specs.Place.{Moved, count, remaining}
+use Rattle.sheet.specs.Reading.{Reading, answer_after, continued, fault_after, next_row, next_view}
+use Rattle.sheet.specs.Rows.{Row, dependency, row_of}
 use Rattle.sheet.specs.declared.faults.Fault.{Fault}
+use Rattle.sheet.specs.declared.lines.Line.{Line}
+use Rattle.sheet.specs.declared.reader.Sheet.{Sheet}
 use Rattle.loader.specs.declared.noting.Loaded.{Loaded}
 use Rattle.loader.specs.Faults.{read_fault, row_fault}
 use Rattle.loader.specs.Loading.{Entered, Loads, Noted, Notes, row_at, Stopped, Stops, refused, starved, unread}
@@ -21,9 +25,6 @@ pub record Progress (old : Plan) (sheet : Reading) (k : ℕ) (rest : Reading) (l
   pub fault : rest.fault ≡ sheet.fault
   pub taken : all_taken old (take k sheet.rows) ≡ Ok new
   pub noted : Noted l (take k sheet.rows)
-
-pub begun : (old : Plan) (sheet : Reading) (l : Loaded) → Noted l [] → Progress old sheet 0 sheet l old
-begun old sheet l n = record { some = omega arith; rows = refl; fault = refl; taken = refl; noted = n }
 
 -- a row more at the end of those that were taken
 then_push : (xs : List Row) (t : Result Plan Refusal) (x : Row) (q r : Plan) → then t (λ p. all_taken p xs) ≡ Ok q → taken q x ≡ Ok r → then t (λ p. all_taken p (xs ++ x ∷ [])) ≡ Ok r
@@ -87,6 +88,24 @@ module _ {old : Plan} {sheet : Reading} {k : ℕ} {rest : Reading} {l : Loaded} 
         ap (all_taken old) (sym all) ∙ at.taken,
         subst (Noted l) all at.noted,
       )
+
+-- the line that a sheet hands out, and what remains
+pub handed_out : (s t : Sheet) (o : Option Line) (x : Line) → o ≡ Some x → Moved s (Ok o) t → remaining s ≡ continued (next_view (Ok o)) (remaining t) → (count t ≡ count s + 1) × (remaining s ≡ continued (Ok (Some (row_of x))) (remaining t))
+handed_out s t o x e m r =
+    let moved = subst (λ p. Moved s (Ok p) t) e m in
+    (moved.1, r ∙ ap (λ p. continued (next_view (Ok p)) (remaining t)) e)
+
+-- what a result says of the one before its error was mapped
+abbrev Mapped : {T E D : Type 0} → (E → D → Type 0) → Result T E → Result T D → Type 0
+Mapped post r m = MatchResult r (λ y. m ≡ Ok y) (λ e. IsErrAnd m (post e))
+
+pub unmapped_ok : {T E D : Type 0} (post : E → D → Type 0) (r : Result T E) (m : Result T D) (x : T) → Mapped post r m → m ≡ Ok x → r ≡ Ok x
+unmapped_ok post (Ok y) m x h e = let same : y ≡ x = cc in ap Ok same
+unmapped_ok post (Err f) m x h e = absurd (let Q : Result _ _ → Type 0 = λ s. IsErrAnd s (post f) in subst Q e h)
+
+pub unmapped_err : {T E D : Type 0} (post : E → D → Type 0) (r : Result T E) (m : Result T D) (d : D) → Mapped post r m → m ≡ Err d → (e : E) × (r ≡ Err e) × post e d
+unmapped_err post (Ok y) m d h e = absurd (let z : ◌≡◌ {A = ℕ} 0 1 = cc in omega arith)
+unmapped_err post (Err f) m d h e = (f, refl, let Q : Result _ _ → Type 0 = λ s. IsErrAnd s (post f) in subst Q e h)
 
 -- the fault of the next line has the next line's number
 pub line_number : (n : ℕ) (ls : List (List ℕ)) (e : Fault) → next_row n ls ≡ Err e → e.line ≡ n + 1

@@ -12,11 +12,11 @@ pub(crate) fn enter(plan: &mut OpenPlan, line: Line<'_>) -> Result<(), Refusal>
 {
     match line {
         Line::Head {
-            make: _,
             places,
             banks,
             latency,
             period,
+            ..
         } => plan.head(Head {
             places: places as usize,
             banks: banks as usize,
@@ -27,7 +27,7 @@ pub(crate) fn enter(plan: &mut OpenPlan, line: Line<'_>) -> Result<(), Refusal>
             place,
             cycles,
             earliest,
-            name: _,
+            ..
         } => {
             plan.task(place as usize, cycles, earliest)?;
             Ok(())

@@ -3,16 +3,16 @@ ghost use Rattle.std.specs.Prelude.{◌≡◌};
 ghost use Rattle.loader.specs.Faults.{number_of, read_fault};
 
 use plan::rows::Refusal;
-use sheet::faults::Fault;
+use sheet::faults::{Cause, Fault};
 
 // The refused line's own fault, or the row's own refusal, whole.
 #[derive(Clone, Copy, PartialEq, Eq, Debug)]
 pub enum LoadCause {
-    Line(sheet::faults::Cause),
+    Line(Cause),
     Row(Refusal),
 }
 
-// A cause with its line and column, both from 1.
+// A cause with its line and column, both from 1. No generic fault: a trait of causes, for `number`, would serve these two alone.
 #[derive(Clone, Copy, PartialEq, Eq, Debug)]
 pub struct LoadFault {
     pub cause: LoadCause,
@@ -26,12 +26,7 @@ impl LoadFault {
         ensures { result ≡ number_of self.now.cause }
     {
         match self.cause {
-            LoadCause::Line(cause) => Fault {
-                cause,
-                line: self.line,
-                column: self.column,
-            }
-            .number(),
+            LoadCause::Line(cause) => cause.number(),
             LoadCause::Row(refusal) => refusal.number(),
         }
     }

@@ -1,11 +1,10 @@
 // Loads the lines of a sheet one after the other.
-ghost use Rattle.std.specs.Prelude.{◌≡◌, [], OnOk};
+ghost use Rattle.std.specs.Prelude.{◌≡◌, OnOk};
 ghost use Rattle.plan.specs.Plans.{opened};
-ghost use Rattle.sheet.specs.Place.{count, remaining};
 ghost use Rattle.sheet.specs.Reading.{whole_reading};
 ghost use Rattle.sheet.specs.Rows.{row_of};
 ghost use Rattle.loader.specs.Faults.{row_fault};
-ghost use Rattle.loader.specs.Loading.{Entered, Loads, Noted, Notes};
+ghost use Rattle.loader.specs.Loading.{Entered, Loads, Notes};
 
 use crate::entering::enter;
 use crate::faults::{LoadCause, LoadFault};
@@ -20,23 +19,11 @@ use std::alloc::Global;
 pub fn load<'a>(heap: Global, plan: &mut OpenPlan, bytes: &'a [u8]) -> Result<Loaded<'a>, LoadFault>
     ensures { Loads (opened plan.old) (whole_reading bytes.now) result (opened plan.new) }
 {
-    load_lines(plan, Sheet::new(bytes), Loaded::new(heap))
-}
-
-fn load_lines<'a>(
-    plan: &mut OpenPlan,
-    mut sheet: Sheet<'a>,
-    mut loaded: Loaded<'a>,
-) -> Result<Loaded<'a>, LoadFault>
-    requires sheet { count sheet ≡ 0 }
-    requires loaded { Noted loaded [] }
-    ensures { Loads (opened plan.old) (remaining sheet.entry) result (opened plan.new) }
-{
+    let mut sheet = Sheet::new(bytes);
+    let mut loaded = Loaded::new(heap);
     while let Some(line) = sheet.next()? {
         let number = sheet.lines();
-        if let Err(refusal) = take_line(plan, &mut loaded, line) {
-            return Err(row_fault(number, refusal));
-        }
+        take_line(plan, &mut loaded, line).map_err(|refusal| row_fault(number, refusal))?;
     }
     Ok(loaded)
 }

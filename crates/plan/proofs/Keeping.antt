@@ -9,10 +9,11 @@ use Rattle.std.proofs.lemmas.List.{get_or_append_left, get_or_past, get_or_push,
 use Rattle.std.proofs.lemmas.List.Sums.{sum_by_push, sum_by-set}
 use Rattle.std.proofs.lemmas.Bool.{and_from, and_parts, both_ways, cases_eq, cases_lt, eqb-false, eqb-true, leb-true, ltb-true, not-true, or_cases, or_left, or_right}
 use Rattle.std.proofs.lemmas.Bool.Decides.{nat_tests}
+use Rattle.std.specs.Prelude.{is_none, is_some}
 use Rattle.plan.specs.declared.rows.Head.{Head}
 use Rattle.plan.specs.declared.rows.Refusal.{Refusal}
 use Rattle.plan.specs.Rows.{Row, Plan, row, new_row, accesses}
-use Rattle.plan.specs.Rules.{asked, after_refusal, banks_of, between, demand_refusal, distinct, head_refusal, is_none, judged, Kept, Legal, legal_head, legal_heading, member, named, newest, places_of, task_refusal, with_accesses, with_after, with_demand, with_head, with_named, with_newest, with_task}
+use Rattle.plan.specs.Rules.{asked, after_refusal, banks_of, between, demand_refusal, distinct, head_refusal, judged, Kept, Legal, legal_head, legal_heading, member, named, newest, places_of, task_refusal, with_accesses, with_after, with_demand, with_head, with_named, with_newest, with_task}
 
 legal_prop : (h : Option Head) (i : ℕ) (r : Row) → IsProp (Legal h i r)
 legal_prop h i r p q = λ j. record {
@@ -108,7 +109,7 @@ legal_set h rows at r all new i l =
 
 pub task_kept : (p : Plan) (place cycles earliest : ℕ) → Kept p → task_refusal p place cycles earliest ≡ None → Kept (with_task p place cycles earliest)
 task_kept p place cycles earliest k e =
-    let a = passed (not (is_none p.head)) _ _ e in
+    let a = passed (is_some p.head) _ _ e in
     let b = passed (ltb place (places_of p.head)) _ _ a.1 in
     let c = passed (between 1 1000000 cycles && leb earliest 1000000000) _ _ b.1 in
     let d = passed (ltb (length p.rows) 256) _ _ c.1 in

@@ -1,9 +1,8 @@
 -- What the tasks of the program stand for, row by row.
 -- Assumes nothing.
-use Rattle.std.proofs.Common.{◌≡◌, ℕ, ◌+◌, ◌-◌, ◌<◌, Bool, true, false, cond, List, [], ◌∷◌, ◌++◌, map, length, get_or, set, Some, None, vec_items, sum_by, Option, sym, refl, ap, ◌∙◌, arith, Bor, MatchOption}
-use Rattle.std.proofs.lemmas.List.{get_or_default, get_or-map, length-map, map_push, map-set, set-get_or}
+use Rattle.std.proofs.Common.{◌≡◌, ℕ, ◌+◌, ◌-◌, ◌<◌, Bool, true, false, cond, List, [], ◌∷◌, ◌++◌, map, length, get_or, set, vec_items, sum_by, Option, sym, refl, ap, ◌∙◌, arith}
+use Rattle.std.proofs.lemmas.List.{get_or-map, length-map, map_push, map-set, set-get_or}
 use Rattle.std.proofs.lemmas.List.Sums.{sum_by-cons}
-use Rattle.std.specs.Slice.{IsGetResult}
 use Rattle.plan.specs.declared.rows.Head.{Head}
 use Rattle.plan.specs.declared.rows.Task.{Task}
 use Rattle.plan.specs.Rows.{Row, new_row, plan_of, row, row_of}
@@ -12,18 +11,6 @@ use Rattle.plan.specs.Rules.{named, newest, with_after, with_named, with_newest,
 -- The task that stands at i is row i.
 pub row_at : (ts : List Task) (i : ℕ) (t : Task) → i < length ts → t ≡ get_or ts i t → row_of t ≡ row (map row_of ts) i
 row_at ts i t l e = ap row_of e ∙ sym (get_or-map row_of ts i t (new_row 0 0 0) l)
-
-pub same_task : (ts : List Task) (i : ℕ) (t u : Task) → i < length ts → t ≡ get_or ts i t → u ≡ get_or ts i u → u ≡ t
-same_task ts i t u l e f = f ∙ get_or_default ts i u t l ∙ sym e
-
--- The last task is the last row.
-pub last_row : (ts : List Task) (o : Option (Bor Task)) → IsGetResult ts 0 (length ts - 1) o → MatchOption o (length (map row_of ts) ≡ 0) (λ t. (0 < length (map row_of ts)) × (row_of t.now ≡ row (map row_of ts) (length (map row_of ts) - 1)))
-last_row ts None item = omega (arith, length-map ts row_of, item.3)
-last_row ts (Some t) item =
-    let e = length-map ts row_of in (
-      omega (arith, e, item.3.0),
-      rw e (row_at ts (length ts - 1) t.now (omega (arith, item.3.0)) (item.3.1 t.now)),
-    )
 
 -- One task more, or none.
 pub task_tried : (h : Option Head) (ts us : List Task) (t : Task) (b : Bool) (place cycles earliest : ℕ) → row_of t ≡ new_row place cycles earliest → us ≡ cond b (ts ++ t ∷ []) ts → plan_of h us ≡ cond b (with_task (plan_of h ts) place cycles earliest) (plan_of h ts)

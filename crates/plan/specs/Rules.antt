@@ -1,5 +1,6 @@
 -- The rules of a plan's rows: when a row is refused, what it adds, and what every plan keeps.
-use Rattle.std.specs.Prelude.{◌≡◌, ℕ, ◌-◌, ◌<◌, ◌≤◌, Bool, true, false, cond, not, ◌&&◌, ◌||◌, List, [], ◌∷◌, ◌++◌, length, Some, None, Ok, Err, sum_by, Option, Result, ◌==◌, nat_le, nat_lt, slice_set}
+use Rattle.std.specs.Prelude.{◌≡◌, ℕ, ◌-◌, ◌<◌, ◌≤◌, Bool, true, cond, not, ◌&&◌, List, [], ◌∷◌, ◌++◌, length, Some, None, Ok, Err, sum_by, Option, Result, ◌==◌, nat_le, nat_lt, is_none, is_some, slice_set}
+use Rattle.std.specs.List.{list_any}
 use Rattle.plan.specs.declared.rows.Head.{Head}
 use Rattle.plan.specs.declared.rows.Refusal.{Refusal}
 use Rattle.plan.specs.declared.rows.Refusal.TheVariants.{Order, Range, Full, Unknown, Twice, Memory}
@@ -11,15 +12,14 @@ between low high n = nat_le low n && nat_le n high
 
 -- Is k in the list?
 abbrev pub member : ℕ → List ℕ → Bool
-member k [] = false
-member k (x ∷ xs) = x == k || member k xs
+member k xs = list_any (λ x. x == k) xs
 
 -- Is nothing in the list twice?
 abbrev pub distinct : List ℕ → Bool
 distinct [] = true
 distinct (x ∷ xs) = not (member x xs) && distinct xs
 
--- A plan without a head has no places and no banks.
+-- A plan without a head has no places, no banks, no latency and no period.
 abbrev pub places_of : Option Head → ℕ
 places_of None = 0
 places_of (Some h) = h.places
@@ -27,6 +27,14 @@ places_of (Some h) = h.places
 abbrev pub banks_of : Option Head → ℕ
 banks_of None = 0
 banks_of (Some h) = h.banks
+
+abbrev pub latency_of : Option Head → ℕ
+latency_of None = 0
+latency_of (Some h) = h.latency
+
+abbrev pub period_of : Option Head → ℕ
+period_of None = 0
+period_of (Some h) = h.period
 
 -- How many rows the tasks of a plan name in all.
 abbrev pub named : List Row → ℕ
@@ -39,10 +47,6 @@ newest p = row p.rows (length p.rows - 1)
 abbrev pub asked : Bool → Refusal → Option Refusal → Option Refusal
 asked answer refusal rest = cond answer rest (Some refusal)
 
-abbrev pub is_none : {X : Type 0} → Option X → Bool
-is_none None = true
-is_none (Some x) = false
-
 -- The head's limits.
 abbrev pub legal_head : Head → Bool
 legal_head h = between 1 32 h.places && (between 1 16 h.banks && (between 1 64 h.latency && between 1 1000000000 h.period))
@@ -52,7 +56,7 @@ head_refusal p h = asked (is_none p.head) Order (asked (legal_head h) Range None
 
 abbrev pub task_refusal : Plan → ℕ → ℕ → ℕ → Option Refusal
 task_refusal p place cycles earliest =
-    asked (not (is_none p.head)) Order
+    asked (is_some p.head) Order
     (asked (nat_lt place (places_of p.head)) Unknown
     (asked (between 1 1000000 cycles && nat_le earliest 1000000000) Range
     (asked (nat_lt (length p.rows) 256) Full None)))
@@ -117,6 +121,13 @@ Attempted None (Err e) x old new done = (e ≡ Memory) × (new ≡ old)
 abbrev pub legal_heading : Option Head → Bool
 legal_heading None = true
 legal_heading (Some h) = legal_head h
+
+-- The limits of a head, or of one that a plan lacks.
+pub record Bounded (h : Head) : Type 0 where
+  pub places : h.places ≤ 32
+  pub banks : h.banks ≤ 16
+  pub latency : h.latency ≤ 64
+  pub period : h.period ≤ 1000000000
 
 -- What row i of every plan keeps: its limits, each bank and each named row once, and earlier rows only.
 pub record Legal (head : Option Head) (i : ℕ) (r : Row) : Type 0 where

@@ -1,7 +1,18 @@
 -- What a task waits for.
-use Rattle.std.specs.Prelude.{ℕ, zero, suc, Bool, false, cond, ◌||◌, List, Some, None, Option, ◌==◌}
+use Rattle.std.specs.Prelude.{◌≡◌, ◌≢◌, ◌<◌, ℕ, zero, suc, Bool, false, cond, ◌||◌, List, length, Some, None, Option, MatchOption, ◌==◌, slice_index_or}
+use Rattle.plan.specs.declared.rows.Task.{Task}
 use Rattle.plan.specs.Rows.{Row, row}
 use Rattle.plan.specs.Rules.{member}
+
+-- Task i of a list is the last at a place.
+pub record IsLastAt (tasks : List Task) (place i : ℕ) : Type 0 where
+  pub within : i < length tasks
+  pub here : (t : Task) → (slice_index_or tasks i t).place ≡ place
+  pub after : (k : ℕ) (t : Task) → i < k → k < length tasks → (slice_index_or tasks k t).place ≢ place
+
+-- The last task of a list at a place, if one is there.
+abbrev pub LastAt : List Task → ℕ → Option ℕ → Type 0
+LastAt tasks place o = MatchOption o ((k : ℕ) (t : Task) → k < length tasks → (slice_index_or tasks k t).place ≢ place) (IsLastAt tasks place)
 
 -- The latest row below i at a place, if there is one.
 abbrev pub latest_at : List Row → ℕ → ℕ → Option ℕ

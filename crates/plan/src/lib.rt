@@ -3,5 +3,4 @@
 
 pub mod closed;
 pub mod open;
-mod reads;
 pub mod rows;

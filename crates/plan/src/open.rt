@@ -10,6 +10,7 @@ mod asks;
 mod calls;
 
 // Rows may be added to it. (∥ ∥₁ marks what it holds as a fact, not data.)
+// No Model: where memory may be wanting is told by the capacities of its fields.
 #[derive(Drop)]
 pub struct OpenPlan {
     head: Option<Head>,

@@ -5,7 +5,7 @@ ghost use Rattle.plan.specs.declared.rows.Refusal.TheVariants.{Memory};
 
 use std::alloc::AllocFailed;
 
-#[derive(Clone, Copy, PartialEq, Eq, Debug)]
+#[derive(Clone, Copy, Default, PartialEq, Eq, Debug)]
 pub struct Head {
     pub places: usize,
     pub banks: usize,
@@ -14,6 +14,7 @@ pub struct Head {
 }
 
 // A task: its place, its cycles alone, its earliest date, its accesses bank by bank, and the earlier rows that it names.
+// The accesses stand in place, for all 16 banks: a demand needs no memory, and has no refusal for want of it.
 #[derive(Drop)]
 pub struct Task {
     pub place: usize,

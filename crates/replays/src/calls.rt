@@ -4,29 +4,25 @@ use arbiter::Arbiter;
 use cluster::{CallRefusal, Place, Stage};
 use run::Run;
 
-fn done(res: Result<(), CallRefusal>) -> Answer {
-    match res {
-        Ok(()) => Answer::Done(0),
-        Err(refusal) => Answer::Done(u64::from(refusal.number())),
+// What was told, or the number of the refusal.
+fn number(told: Result<u64, CallRefusal>) -> u64 {
+    told.unwrap_or_else(|refusal| u64::from(refusal.number()))
+}
+
+fn place_number(place: Place) -> u64 {
+    match place {
+        Place::Idle => 0,
+        Place::Working(_) => 1,
+        Place::Waiting(_, _) => 2,
+        Place::Served(_, _) => 3,
     }
 }
 
-fn place_state(told: Result<Place, CallRefusal>) -> Answer {
-    match told {
-        Ok(Place::Idle) => Answer::State(0),
-        Ok(Place::Working(_)) => Answer::State(1),
-        Ok(Place::Waiting(_, _)) => Answer::State(2),
-        Ok(Place::Served(_, _)) => Answer::State(3),
-        Err(refusal) => Answer::State(u64::from(refusal.number())),
-    }
-}
-
-fn task_state(told: Result<Stage, CallRefusal>) -> Answer {
-    match told {
-        Ok(Stage::Ahead) => Answer::State(0),
-        Ok(Stage::AtWork) => Answer::State(1),
-        Ok(Stage::Done) => Answer::State(2),
-        Err(refusal) => Answer::State(u64::from(refusal.number())),
+fn stage_number(stage: Stage) -> u64 {
+    match stage {
+        Stage::Ahead => 0,
+        Stage::AtWork => 1,
+        Stage::Done => 2,
     }
 }
 
@@ -43,20 +39,20 @@ fn now<A: Arbiter>(run: &Run<A>) -> Answer {
 }
 
 // The answer of the last cycle.
-fn cycles<A: Arbiter>(run: &mut Run<A>, count: u64) -> Answer {
-    let mut last = Answer::Done(0);
+fn cycles<A: Arbiter>(run: &mut Run<A>, count: u64) -> u64 {
+    let mut last = 0;
     for _ in 0..count {
-        last = done(run.cycle());
+        last = number(run.cycle().map(|()| 0));
     }
     last
 }
 
 pub(crate) fn answer<A: Arbiter>(run: &mut Run<A>, call: Call) -> Answer {
     match call {
-        Call::Ask { place, bank } => done(run.ask(place, bank)),
-        Call::Cycles(count) => cycles(run, count),
+        Call::Ask { place, bank } => Answer::Done(number(run.ask(place, bank).map(|()| 0))),
+        Call::Cycles(count) => Answer::Done(cycles(run, count)),
         Call::Now => now(run),
-        Call::Place(place) => place_state(run.place(place)),
-        Call::Task(row) => task_state(run.task(row)),
+        Call::Place(place) => Answer::State(number(run.place(place).map(place_number))),
+        Call::Task(row) => Answer::State(number(run.task(row).map(stage_number))),
     }
 }

@@ -10,11 +10,16 @@ mod replay;
 mod steps;
 
 use case::Case;
-use lines::CaseLines;
+use lines::Line;
 use std::fs;
+use std::fs::Files;
 
 // Is every answer of the case as expected? The first that is not is printed.
-fn is_as_expected(rt: &HostRuntime, name: &str, case: &Case) -> anyhow::Result<bool> {
+fn is_as_expected(
+    rt: &(impl Print + AllocGlobal),
+    name: &str,
+    case: &Case,
+) -> anyhow::Result<bool> {
     let Some(difference) = arbiters::first_difference(rt.alloc(), case)? else {
         return Ok(true);
     };
@@ -25,13 +30,17 @@ fn is_as_expected(rt: &HostRuntime, name: &str, case: &Case) -> anyhow::Result<b
     Ok(false)
 }
 
-fn replay_file(rt: &HostRuntime, name: &str) -> anyhow::Result<()> {
+fn replay_file(rt: &(impl Print + AllocGlobal + Files), name: &str) -> anyhow::Result<()> {
     let heap = rt.alloc();
     let bytes = fs::read(rt, name)?;
     let mut case = Case::new(heap, 0, 0);
     let mut cases = 0u64;
     let mut good = 0u64;
-    for line in CaseLines::new(bytes.as_slice()) {
+    for (i, text) in bytes.split_inclusive(|b| *b == b'\n').enumerate() {
+        let line = Line {
+            number: i + 1,
+            text,
+        };
         match line.letter() {
             b'X' => case = Case::new(heap, line.field(0)?, line.number),
             b'E' => {
@@ -47,13 +56,9 @@ fn replay_file(rt: &HostRuntime, name: &str) -> anyhow::Result<()> {
     Ok(())
 }
 
-fn replay_files(rt: &HostRuntime) -> anyhow::Result<()> {
+fn main(rt: HostRuntime) -> anyhow::Result<()> {
     for name in ["tables.txt", "runs.txt", "warm.txt"] {
-        replay_file(rt, name)?;
+        replay_file(&rt, name)?;
     }
     Ok(())
-}
-
-fn main(rt: HostRuntime) -> anyhow::Result<()> {
-    replay_files(&rt)
 }

@@ -3,9 +3,9 @@ use crate::calls;
 use crate::steps::{Answer, Difference, Question, Step};
 use arbiter::Arbiter;
 use cluster::SetUpRefusal;
-use date_check::{Dates, Refusal, check};
+use date_check::{Dates, check};
 use plan::closed::ClosedPlan;
-use run::Run;
+use run::{Refused, Run};
 use std::alloc::Global;
 use std::mem;
 
@@ -19,28 +19,23 @@ pub(crate) struct Replay<'r, A: Arbiter> {
     run: Option<Run<'r, A>>,
 }
 
-fn verdict(number: u32, row: usize) -> Answer {
+// A refusal's number and the row that it names.
+fn refused(number: u32, row: Option<usize>) -> Answer {
     Answer::Verdict {
         number: u64::from(number),
-        row: row as u64,
+        row: row.unwrap_or(0) as u64,
     }
 }
 
-// The row that a refusal of the check names, or 0.
-fn checked_row(refusal: Refusal) -> usize {
+// The row that a refusal of a set-up names.
+fn late_row(refusal: SetUpRefusal) -> Option<usize> {
     match refusal {
-        Refusal::Early(row) | Refusal::Short(row) | Refusal::Late(row) => row,
-        Refusal::NoTask | Refusal::Arbiters | Refusal::Table | Refusal::Range => 0,
+        SetUpRefusal::Late(row) => Some(row),
+        _ => None,
     }
 }
 
-// The row that a refusal of a set-up names, or 0.
-fn set_up_row(refusal: SetUpRefusal) -> usize {
-    match refusal {
-        SetUpRefusal::Late(row) => row,
-        _ => 0,
-    }
-}
+const PASSED: Answer = Answer::Verdict { number: 0, row: 0 };
 
 impl<'r, A: Arbiter + Drop> Replay<'r, A> {
     pub(crate) fn new(
@@ -60,20 +55,20 @@ impl<'r, A: Arbiter + Drop> Replay<'r, A> {
 
     fn check(&self) -> Answer {
         match check(self.plan, self.arbiters.as_slice(), self.dates) {
-            Ok(()) => verdict(0, 0),
-            Err(refusal) => verdict(refusal.number(), checked_row(refusal)),
+            Ok(()) => PASSED,
+            Err(refusal) => refused(refusal.number(), refusal.row()),
         }
     }
 
     fn post(&mut self, bank: usize, source: usize, picks: bool) -> Answer {
-        if bank >= self.arbiters.len() {
+        let Some(arbiter) = self.arbiters.get_mut(bank) else {
             return Answer::Absent;
-        }
-        if let Err(refusal) = self.arbiters[bank].post(source) {
+        };
+        if let Err(refusal) = arbiter.post(source) {
             return Answer::Done(u64::from(refusal.number()));
         }
         if picks {
-            let _ = self.arbiters[bank].pick();
+            let _ = arbiter.pick();
         }
         Answer::Done(0)
     }
@@ -83,11 +78,11 @@ impl<'r, A: Arbiter + Drop> Replay<'r, A> {
         match Run::set_up(self.plan, self.dates, arbiters) {
             Ok(run) => {
                 self.run = Some(run);
-                verdict(0, 0)
+                PASSED
             }
-            Err(refused) => {
-                self.arbiters = refused.arbiters;
-                verdict(refused.refusal.number(), set_up_row(refused.refusal))
+            Err(Refused { refusal, arbiters }) => {
+                self.arbiters = arbiters;
+                refused(refusal.number(), late_row(refusal))
             }
         }
     }
@@ -110,6 +105,7 @@ impl<'r, A: Arbiter + Drop> Replay<'r, A> {
 
     // The first step whose answer is not the expected one.
     pub(crate) fn first_difference(&mut self, steps: &[Step]) -> Option<Difference> {
+        // A loop, since each answer changes the run.
         for step in steps {
             let got = self.answer(step.question);
             if got != step.answer {

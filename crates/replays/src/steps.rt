@@ -25,7 +25,7 @@ pub(crate) enum Call {
     Task(usize),
 }
 
-// Numbers as the rules and the file have them.
+// Numbers, since the file has the rules' numbers, and those of the libraries' enums are compared with them.
 #[derive(Clone, Copy, PartialEq, Eq, Debug)]
 pub(crate) enum Answer {
     // A refusal and the row that it names; 0 where there is none.

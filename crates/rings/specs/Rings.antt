@@ -1,7 +1,7 @@
 -- Rings: what their posts and picks do, and their bound.
 use Rattle.std.specs.Prelude.{◌≡◌, ℕ, ◌<◌, Bool, true, false, Some, None, slice_index_or, slice_set}
 use Rattle.arbiter.specs.Fair.{fair_bound}
-use Rattle.arbiter.specs.Meaning.{Model, Moves, meaning}
+use Rattle.arbiter.specs.Meaning.{Model}
 use Rattle.rings.specs.declared.ring.Ring.{Ring}
 use Rattle.rings.specs.Order.{First}
 
@@ -31,13 +31,12 @@ pub record Picked (a : Ring) (s : ℕ) (b : Ring) : Type 0 where
   pub width : b.width ≡ a.width
 
 -- What a ring means.
-abbrev pub ring_moves : Moves Ring
-ring_moves = record {
+abbrev pub ring : Model Ring
+ring = record {
   width = λ a. a.width;
+  waiting = ring_waiting;
+  last = λ a. a.last;
   bound = λ a s own xs. fair_bound a.width s own xs;
   posted = Posted;
   picked = Picked;
 }
-
-abbrev pub ring : Model Ring
-ring = meaning ring_waiting (λ a. a.last) ring_moves

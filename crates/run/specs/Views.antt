@@ -1,9 +1,9 @@
 -- The runs of the program as values, and what their calls answer.
-use Rattle.std.specs.Prelude.{◌≡◌, ℕ, Bool, cond, List, length, Some, None, Ok, Err, vec_items, Option, Result, nat_lt}
+use Rattle.std.specs.Prelude.{◌≡◌, ℕ, ◌<◌, Bool, cond, List, length, Some, None, Ok, Err, vec_items, Option, Result, nat_lt}
 use Rattle.plan.specs.declared.closed.ClosedPlan.{ClosedPlan}
 use Rattle.plan.specs.Plans.{closed}
 use Rattle.plan.specs.Rows.{Plan}
-use Rattle.plan.specs.Rules.{places_of}
+use Rattle.plan.specs.Rules.{banks_of, places_of}
 use Rattle.date_check.specs.declared.dates.Dates.{Dates}
 use Rattle.cluster.specs.declared.place.Place.{Place}
 use Rattle.cluster.specs.declared.refusal.CallRefusal.{CallRefusal}
@@ -26,11 +26,23 @@ module _ {A : Type 0} where
   abbrev pub state : Run A → State A
   state r = record { time = r.time; stages = r.stages; places = r.places; services = r.services; arbiters = vec_items r.arbiters; breach = r.breach }
 
+  -- A row and a bank of the run's plan.
+  abbrev pub HasRow : Run A → ℕ → Type 0
+  HasRow r i = i < length (planned r).rows
+
+  abbrev pub HasBank : Run A → ℕ → Type 0
+  HasBank r b = b < banks_of (planned r).head
+
   -- Between r and q the plan and the dates stay.
   abbrev pub Stays : Run A → Run A → Type 0
   Stays r q = (q.plan ≡ r.plan) × (q.dates ≡ r.dates)
 
-  -- From r to q the state changes by this step, and all else stays.
+  -- From r to q the state changes as the rule says, and all else stays.
+  pub record Moves (rule : State A → State A → Type 0) (r q : Run A) : Type 0 where
+    pub moves : rule (state r) (state q)
+    pub stays : Stays r q
+
+  -- The same by a step, which says exactly what it leaves.
   pub record Goes (step : State A → State A) (r q : Run A) : Type 0 where
     pub leaves : state q ≡ step (state r)
     pub stays : Stays r q

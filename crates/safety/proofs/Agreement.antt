@@ -9,7 +9,6 @@ use Rattle.arbiter.specs.Meaning.{Keeps}
 use Rattle.cluster.specs.declared.place.Place.{Place}
 use Rattle.cluster.specs.declared.place.Place.TheVariants.{Idle, Working, Waiting, Served}
 use Rattle.cluster.specs.declared.stage.Stage.TheVariants.{AtWork}
-use Rattle.safety.proofs.Options.{some_same}
 use Rattle.safety.proofs.Setting.{Setting, banks, due, first, home, release, rows}
 use Rattle.safety.proofs.Standing.{holder, served, served_at, stands_at, waits_at}
 use Rattle.safety.proofs.Views.{View}
@@ -74,4 +73,4 @@ module _ {A : Type 0} (c : Setting A) where
 
     -- One task at a place at a time.
     pub same_holder : (q t u : ℕ) → holder (v.place q) ≡ Some t → u < rows c → v.stage u ≡ AtWork → home c u ≡ q → u ≡ t
-    same_holder q t u e l w h = some_same u t (sym (lk.held u l w) ∙ ap (λ x. holder (v.place x)) h ∙ e)
+    same_holder q t u e l w h = let f : Some u ≡ Some t = sym (lk.held u l w) ∙ ap (λ x. holder (v.place x)) h ∙ e in cc

@@ -1,5 +1,7 @@
 -- The states that a run comes to.
 use Rattle.std.proofs.Common.{◌≡◌, ℕ, ◌<◌, ◌≤◌, true, false, not, ◌&&◌, ltb, Some, None, Ok, Err, Option, Result, sym, refl, ap, ◌∙◌, subst, arith}
+use Rattle.std.specs.Prelude.{is_some}
+use Rattle.std.proofs.lemmas.Option.{get_or_from_slice_get}
 use Rattle.std.proofs.lemmas.Bool.{and_parts, false≢true, lt-ltb, ltb-true}
 use Rattle.plan.specs.Rules.{places_of}
 use Rattle.arbiter.specs.Answers.{post_answer}
@@ -11,7 +13,7 @@ use Rattle.cluster.specs.declared.place.Place.TheVariants.{Idle, Working, Waitin
 use Rattle.cluster.specs.declared.refusal.CallRefusal.{CallRefusal}
 use Rattle.cluster.specs.declared.refusal.CallRefusal.TheVariants.{Breached, Unknown, Spent}
 use Rattle.cluster.specs.Calls.{Asking, CycleOf, Cycling, Posting, TurnedAway, ask_refusal, place_refusal}
-use Rattle.cluster.specs.Cycles.{closing, is_some, overdue, worked}
+use Rattle.cluster.specs.Cycles.{closing, overdue, worked}
 use Rattle.cluster.specs.Places.{left_at}
 use Rattle.cluster.specs.Runs.{Comes, asks, cycles, questions, sets_up}
 use Rattle.cluster.specs.States.{State, fresh, place_of}
@@ -25,22 +27,21 @@ use Rattle.safety.proofs.Releases.{releases_sane}
 use Rattle.safety.proofs.Setting.{Setting, banks, first, rows}
 use Rattle.safety.proofs.Standing.{waits_at}
 use Rattle.safety.proofs.Steps.{Step, ask_step}
-use Rattle.safety.proofs.Updates.{nth_at}
 use Rattle.safety.proofs.Views.{view, view_fresh}
 
 -- A place that is not refused works, and its task has an access left.
 works_there : (x : Place) (b : ℕ) → place_refusal x b ≡ None → (j : Job) × (x ≡ Working j) × (1 ≤ left_at j b)
-works_there Idle b e = absurd (none_some _ (sym e))
+works_there Idle b e = cc
 works_there (Working j) b e = (j, refl, ltb-true 0 (left_at j b) (passed (ltb 0 (left_at j b)) Spent None e).0)
-works_there (Waiting j bank) b e = absurd (none_some _ (sym e))
-works_there (Served j bank) b e = absurd (none_some _ (sym e))
+works_there (Waiting j bank) b e = cc
+works_there (Served j bank) b e = cc
 
 no_breach : (x : Option Breach) → not (is_some x) ≡ true → x ≡ None
 no_breach None e = refl
-no_breach (Some x) e = absurd (false≢true e)
+no_breach (Some x) e = cc
 
 ok_err : (f : arbiters.Refusal) → ◌≡◌ {A = Result (Unit {0}) arbiters.Refusal} (Ok tt) (Err f) → ⊥
-ok_err f e = let z : ◌≡◌ {A = ℕ} 0 1 = cc in omega arith
+ok_err f e = cc
 
 module _ {A : Type 0} (c : Setting A) where
   -- What is known where the rules take an ask.
@@ -120,7 +121,7 @@ module _ {A : Type 0} (c : Setting A) where
   not_turned_away s h q b e x =
       let k = takes s q b e in
       let lk = (comes_sane h k.unbroken).linked in
-      let at : (view c s).arbiter b ≡ x.arbiter = (nth_at s.arbiters b x.arbiter c.some x.stood).1 in
+      let at : (view c s).arbiter b ≡ x.arbiter = get_or_from_slice_get s.arbiters b x.arbiter c.some x.stood in
       let idle : c.model.waiting x.arbiter q ≡ false = ap (λ a. c.model.waiting a q) (sym at) ∙ lk.waiting b q k.bank ∙ ap (λ y. waits_at y b) k.here in
       let known : q < c.model.width x.arbiter = omega (arith, k.place, c.wide b k.bank, (lk.keeps b k.bank).width, ap c.model.width at) in
       let taken : post_answer (c.model.width x.arbiter) (c.model.waiting x.arbiter) q ≡ Ok tt = rw (lt-ltb q (c.model.width x.arbiter) known, idle) in

@@ -2,8 +2,8 @@
 use Rattle.std.proofs.Common.{◌≡◌, ℕ, ◌+◌, ◌<◌, ◌≤◌, Bool, true, false, ◌&&◌, eqb, replicate, None, sym, refl, ap, ◌∙◌, subst, inl, inr, arith}
 use Rattle.std.proofs.lemmas.List.{length-replicate}
 use Rattle.std.proofs.lemmas.Bool.{cases_eq, cond_both, eq-eqb, eqb-true, false≢true, ne_eqb, true≢false}
-use Rattle.plan.specs.Rules.{places_of}
-use Rattle.date_check.specs.Sound.{Sound, period_of}
+use Rattle.plan.specs.Rules.{places_of, period_of}
+use Rattle.date_check.specs.Sound.{Sound}
 use Rattle.cluster.specs.declared.stage.Stage.{Stage}
 use Rattle.cluster.specs.declared.stage.Stage.TheVariants.{Ahead, AtWork, Done}
 use Rattle.cluster.specs.Cycles as cycles

@@ -8,8 +8,8 @@ use Rattle.cluster.specs.Cycles.{all_done, is_done, lowest, or_else}
 use Rattle.cluster.specs.States.{State, stage_of}
 
 neither : (o : Option ℕ) (x : Bool) (n : ℕ) → or_else o (cond x (Some n) None) ≡ None → (o ≡ None) × (x ≡ false)
-neither (Some i) x n e = let z : ◌≡◌ {A = ℕ} 0 1 = cc in absurd (omega arith)
-neither None true n e = let z : ◌≡◌ {A = ℕ} 0 1 = cc in absurd (omega arith)
+neither (Some i) x n e = cc
+neither None true n e = cc
 neither None false n e = (refl, refl)
 
 pub none_passes : (n : ℕ) (f : ℕ → Bool) → lowest n f ≡ None → (k : ℕ) → k < n → f k ≡ false

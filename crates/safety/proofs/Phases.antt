@@ -1,11 +1,11 @@
 -- The first four steps of a cycle, bank by bank and place by place.
 use Rattle.std.proofs.Common.{◌≡◌, ℕ, zero, suc, ◌<◌, ◌≤◌, true, Some, None, Option, sym, refl, ap, ◌∙◌, subst, inl, inr, arith}
+use Rattle.std.specs.Prelude.{is_some}
 use Rattle.std.proofs.lemmas.List.{length-map}
 use Rattle.std.proofs.lemmas.Bool.{cases_eq}
 use Rattle.std.proofs.lemmas.Bool.Decides.{nat_tests}
 use Rattle.plan.specs.declared.rows.Head.{Head}
-use Rattle.plan.specs.Rules.{banks_of, legal_heading}
-use Rattle.date_check.specs.Sound.{latency_of}
+use Rattle.plan.specs.Rules.{banks_of, legal_heading, latency_of}
 use Rattle.cluster.specs.declared.service.Service.{Service}
 use Rattle.cluster.specs.Cycles as cycles
 use Rattle.cluster.specs.Cycles.{Turns, end_service, next_turn, no_turn, retire}
@@ -85,7 +85,7 @@ module _ {A : Type 0} (c : Setting A) where
             };
         busy = λ d l. elim (cases_eq d n) [
           | inl same ↦ subst (Busy c (view c u)) (sym same) x.busy
-          | inr apart ↦ λ o w. ap cycles.is_some (x.elsewhere d apart).0 ∙ h.busy d (omega arith) o (ap (λ z. c.model.waiting z o) (sym (x.elsewhere d apart).1) ∙ w)
+          | inr apart ↦ λ o w. ap is_some (x.elsewhere d apart).0 ∙ h.busy d (omega arith) o (ap (λ z. c.model.waiting z o) (sym (x.elsewhere d apart).1) ∙ w)
         ];
       }
 

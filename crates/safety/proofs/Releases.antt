@@ -1,5 +1,6 @@
 -- Releases keep all in agreement, whatever the dates; with sound dates each task is ready when its date comes.
 use Rattle.std.proofs.Common.{◌≡◌, ℕ, zero, suc, ◌<◌, ◌≤◌, true, cond, eqb, ◌≢◌, Some, None, sym, refl, ap, ◌∙◌, subst, inl, inr, arith}
+use Rattle.std.specs.Prelude.{is_some}
 use Rattle.std.proofs.lemmas.List.{length-set}
 use Rattle.std.proofs.lemmas.Bool.{and_from, and_parts, cases_eq, cases_order, cond_both, eq-eqb, eqb-true, false≢true, ne_eqb}
 use Rattle.plan.proofs.Waiting.{waits_below}
@@ -11,7 +12,7 @@ use Rattle.cluster.specs.declared.place.Place.TheVariants.{Idle, Working, Waitin
 use Rattle.cluster.specs.declared.stage.Stage.{Stage}
 use Rattle.cluster.specs.declared.stage.Stage.TheVariants.{Ahead, AtWork, Done}
 use Rattle.cluster.specs.Cycles as cycles
-use Rattle.cluster.specs.Cycles.{all_done, is_idle, is_some, new_job, ready, releases, start}
+use Rattle.cluster.specs.Cycles.{all_done, is_idle, new_job, ready, releases, start}
 use Rattle.cluster.specs.Runs.{Ready}
 use Rattle.cluster.specs.States.{State, place_of, stage_of, with_breach}
 use Rattle.safety.proofs.Accounts.{Paid}

@@ -1,11 +1,11 @@
 -- What stays in a run, and the facts that set-up asked for.
 use Rattle.std.proofs.Common.{◌≡◌, ℕ, ◌-◌, ◌<◌, ◌≤◌, Bool, false, List, length, get_or, Some, None, Option}
 use Rattle.plan.specs.Rows.{Plan, accesses, row}
-use Rattle.plan.specs.Rules.{Kept, banks_of, places_of}
+use Rattle.plan.specs.Rules.{Kept, banks_of, places_of, latency_of, period_of}
 use Rattle.arbiter.specs.Laws.{Lawful}
 use Rattle.arbiter.specs.Meaning.{Model}
 use Rattle.date_check.specs.declared.dates.Dates.{Dates}
-use Rattle.date_check.specs.Sound.{dated, finish, latency_of, meets, period_of}
+use Rattle.date_check.specs.Sound.{dated, finish, meets}
 use Rattle.cluster.specs.declared.service.Service.{Service}
 
 pub record Setting (A : Type 0) : Type 1 where

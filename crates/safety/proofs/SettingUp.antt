@@ -1,25 +1,25 @@
 -- What set-up asked for, and what the check asks for.
-use Rattle.std.proofs.Common.{◌≡◌, ℕ, zero, suc, ◌<◌, ◌≤◌, true, false, not, eqb, ltb, leb, List, [], ◌∷◌, length, get_or, Some, None, Option, sym, refl, ap, ◌∙◌, inl, inr, arith}
+use Rattle.std.proofs.Common.{◌≡◌, ℕ, zero, suc, ◌<◌, ◌≤◌, true, false, not, eqb, ltb, leb, List, [], ◌∷◌, length, get_or, Some, None, Option, refl, ap, ◌∙◌, inl, inr, arith}
 use Rattle.std.proofs.lemmas.Bool.{and_from, and_parts, cases_Bool, cases_eq, eq-eqb, eqb-true, le-leb, le-ltb, leb-true, lt-ltb, ltb-false, ltb-true, not-true}
 use Rattle.std.proofs.lemmas.Bool.Decides.{nat_tests}
 use Rattle.std.specs.List.{AllByRecursion}
 use Rattle.plan.specs.declared.rows.Head.{Head}
 use Rattle.plan.specs.Rows.{Plan}
-use Rattle.plan.specs.Rules.{Kept, banks_of, between, legal_heading, places_of}
+use Rattle.plan.specs.Rules.{Kept, banks_of, between, legal_heading, places_of, period_of}
 use Rattle.arbiter.specs.Answers.{someone}
 use Rattle.arbiter.specs.Laws.{Lawful}
 use Rattle.arbiter.specs.Meaning.{Model}
 use Rattle.arbiter.proofs.Someone.{nobody_at}
 use Rattle.date_check.specs.declared.dates.Dates.{Dates}
-use Rattle.date_check.specs.Sound.{Fits, Sound, dated, finish, period_of}
+use Rattle.date_check.specs.Sound.{Fits, Sound, dated, finish}
 use Rattle.date_check.specs.Verdict.{all_wide, arbiters_fit}
 use Rattle.date_check.proofs.Passing.{wide_all}
 use Rattle.date_check.proofs.Reading.{short_period}
-use Rattle.cluster.specs.declared.refusal.SetUpRefusal.TheVariants.{NoTask, Arbiters, Table, Waiting, Range, Late}
+use Rattle.cluster.specs.declared.refusal.SetUpRefusal.TheVariants.{NoTask, Arbiters, Table, Waiting, Range}
 use Rattle.cluster.specs.Calls.{all_in_range, all_quiet, is_late, late_refusal, runs_in_range, set_up_refusal}
 use Rattle.cluster.specs.Cycles.{lowest}
 use Rattle.safety.proofs.Lowest.{none_lowest, none_passes}
-use Rattle.safety.proofs.Options.{none_some, pass, passed}
+use Rattle.safety.proofs.Options.{pass, passed}
 
 all_at : {A : Type 0} (P : A → Type 0) (xs : List A) (d : A) → AllByRecursion P xs → (b : ℕ) → b < length xs → P (get_or xs b d)
 all_at P [] d h b l = absurd (omega arith)
@@ -43,7 +43,7 @@ range_at table (suc n) i h l =
 
 not_late : (o : Option ℕ) → late_refusal o ≡ None → o ≡ None
 not_late None e = refl
-not_late (Some i) e = absurd (none_some (Late i) (sym e))
+not_late (Some i) e = cc
 
 -- A plan with a task has a bank.
 some_bank : (o : Option Head) (place : ℕ) → legal_heading o ≡ true → place < places_of o → 1 ≤ banks_of o

@@ -14,7 +14,7 @@ use Rattle.cluster.specs.Cycles.{new_job}
 use Rattle.safety.proofs.Accounts.{Paid, Past, WatchedAt, counts, met, met_le, spent_at, used, used_by, watched_on}
 use Rattle.safety.proofs.Agreement.{IsAtWork, Linked, Timely, known_stands, served_not_waits, stands_held}
 use Rattle.safety.proofs.Hands.{hand_linked, hand_spent}
-use Rattle.safety.proofs.Options.{none_some, some_same}
+use Rattle.safety.proofs.Options.{none_some}
 use Rattle.safety.proofs.Payments.{in_windows_meet}
 use Rattle.safety.proofs.Posting.{has_posted}
 use Rattle.safety.proofs.Retires.{idle_plain, working_plain}
@@ -50,7 +50,7 @@ module _ {A : Type 0} (c : Setting A) where
     start_linked =
         hand_linked c v (home c i) i (at_start i) AtWork (idle_plain (v.place (home c i)) idle) (working_plain (at_start i) (new_job c.plan i) refl) lk
         (λ o k. upd_both v.place (home c i) o (at_start i) (λ z. holder z ≡ Some k → IsAtWork c started k o)
-        (λ f e. let same : k ≡ i = sym (some_same i k e) in record { known = omega arith; here = ap (home c) same ∙ sym f; stage = upd_same v.stage i k AtWork same })
+        (λ f e. let same : k ≡ i = cc in record { known = omega arith; here = ap (home c) same ∙ sym f; stage = upd_same v.stage i k AtWork same })
         (λ f e. let w = lk.holds o k e in record { known = w.known; here = w.here; stage = upd_both v.stage i k AtWork (λ y. y ≡ AtWork) (λ g. refl) (λ g. w.stage) }))
         (λ k j. upd_both v.stage i k AtWork (λ y. y ≡ AtWork → holder (upd v.place (home c i) (at_start i) (home c k)) ≡ Some k)
         (λ f w. ap holder (upd_same v.place (home c i) (home c k) (at_start i) (ap (home c) f)) ∙ ap Some (sym f))

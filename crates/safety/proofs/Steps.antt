@@ -1,5 +1,7 @@
 -- The steps of a run as moves: asks, picks, ends of services, tasks that are done.
 use Rattle.std.proofs.Common.{◌≡◌, ℕ, ◌<◌, ◌≤◌, true, false, eqb, ◌≢◌, ◌⊎◌, get_or, set, Some, None, Option, sym, refl, ap, ◌∙◌, subst, inl, inr, arith}
+use Rattle.std.specs.Prelude.{is_some}
+use Rattle.std.proofs.lemmas.Option.{get_or_from_slice_get}
 use Rattle.std.proofs.lemmas.List.{length-set}
 use Rattle.std.proofs.lemmas.Bool.{both_ways, cond_both, eq-eqb, eqb-false, eqb-true, false≢true, or_left}
 use Rattle.arbiter.specs.Answers.{AfterPick}
@@ -11,7 +13,7 @@ use Rattle.cluster.specs.declared.place.Event.TheVariants.{Asked, Picked, Servic
 use Rattle.cluster.specs.declared.service.Service.{Service}
 use Rattle.cluster.specs.declared.stage.Stage.TheVariants.{Done}
 use Rattle.cluster.specs.Calls.{Posting}
-use Rattle.cluster.specs.Cycles.{Turn, TurnOf, end_service, ended, is_some, picked, retire, retired}
+use Rattle.cluster.specs.Cycles.{Turn, TurnOf, end_service, ended, picked, retire, retired}
 use Rattle.cluster.specs.Places.{after, left_at}
 use Rattle.cluster.specs.States.{State, happen, place_of, service_of, with_arbiters, with_place, with_service, with_stage}
 use Rattle.safety.proofs.Agreement.{Linked, bank_below, held_below}
@@ -22,7 +24,7 @@ use Rattle.safety.proofs.Options.{none_some}
 use Rattle.safety.proofs.Picks.{pick_exchange, waits_is}
 use Rattle.safety.proofs.Setting.{Setting, banks, latency}
 use Rattle.safety.proofs.Standing.{cycles_of, holder, served, served_at, stands_at, waits_at}
-use Rattle.safety.proofs.Updates.{nth_at, upd_both, upd_other, upd_same}
+use Rattle.safety.proofs.Updates.{upd_both, upd_other, upd_same}
 use Rattle.safety.proofs.Uses.{Busy, Stocked}
 use Rattle.safety.proofs.Views.{Sized, view, view_ask, view_end, view_hand, view_idle, view_pick}
 
@@ -46,8 +48,8 @@ module _ {A : Type 0} (c : Setting A) where
     pub ask_step : (q b : ℕ) (j : Job) (t : State A) → b < banks c → place_of s q ≡ Working j → 1 ≤ left_at j b → Posting c.model s q b t → Step s t
     ask_step q b j t bank here some p =
         let low = (held_below c (view c s) lk q j.task (ap holder here)).1 in
-        let at = nth_at s.arbiters b p.before c.some p.stood in
-        let h = ask_exchange c (view c s) q b j p.after lk here bank some (subst (λ x. c.model.posted x q p.after) (sym at.1) p.posts) (after (place_of s q) (Asked b)) (asked_is (place_of s q) j b here (bank_below c b bank)) in
+        let at = get_or_from_slice_get s.arbiters b p.before c.some p.stood in
+        let h = ask_exchange c (view c s) q b j p.after lk here bank some (subst (λ x. c.model.posted x q p.after) (sym at) p.posts) (after (place_of s q) (Asked b)) (asked_is (place_of s q) j b here (bank_below c b bank)) in
         subst (Step s) (sym p.leaves) (record {
           sized = record { stages = sized.stages; places = length-set s.places q _ ∙ sized.places; services = sized.services; arbiters = length-set s.arbiters b _ ∙ sized.arbiters };
           time = refl;
@@ -101,7 +103,7 @@ module _ {A : Type 0} (c : Setting A) where
       where
         by : (u : Option Service) → service_of s b ≡ u → TurnOf c.model (latency c) u b s t → Turned b t
         by (Some y) e same = subst (Turned b) (sym same) (record { step = no_step s sized; elsewhere = λ d f. (refl, refl); busy = λ o w. ap is_some e; begun = λ z f. inl f })
-        by None e p = subst (Turned b) (sym p.leaves) (picked_turn b p.before p.after p.answer bank e (nth_at s.arbiters b p.before c.some p.stood).1 p.picks)
+        by None e p = subst (Turned b) (sym p.leaves) (picked_turn b p.before p.after p.answer bank e (get_or_from_slice_get s.arbiters b p.before c.some p.stood) p.picks)
 
     -- The service of bank b ends if it is over.
     pub record Ended (b : ℕ) (t : State A) : Type 0 where

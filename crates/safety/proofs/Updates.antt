@@ -1,8 +1,8 @@
 -- Functions of a number with one value changed, and lists read as functions.
-use Rattle.std.proofs.Common.{◌≡◌, ℕ, zero, suc, ◌<◌, cond, eqb, ◌≢◌, List, [], ◌∷◌, map, length, get_or, set, Some, sym, refl, ap, ◌∙◌, subst, inl, inr, arith}
+use Rattle.std.proofs.Common.{◌≡◌, ℕ, ◌<◌, cond, eqb, ◌≢◌, List, map, length, get_or, set, sym, refl, ap, ◌∙◌, subst, inl, inr}
 use Rattle.std.proofs.lemmas.List.{get_or-set_other, get_or-set_same}
+use Rattle.std.proofs.Math.ListN.{get_or-map}
 use Rattle.std.proofs.lemmas.Bool.{cases_eq, eq-eqb, ne_eqb}
-use Rattle.std.specs.List.{slice_get}
 
 abbrev pub upd : {X : Type 0} → (ℕ → X) → ℕ → X → ℕ → X
 upd f i x j = cond (eqb j i) x (f j)
@@ -30,12 +30,4 @@ set_at xs i j x d l =
     ]
 
 pub map_at : {X : Type 0} (f : X → X) (xs : List X) (j : ℕ) (d : X) → f d ≡ d → get_or (map f xs) j d ≡ f (get_or xs j d)
-map_at f [] j d e = sym e
-map_at f (x ∷ xs) zero d e = refl
-map_at f (x ∷ xs) (suc j) d e = map_at f xs j d e
-
--- An entry of a list is its value by any default.
-pub nth_at : {X : Type 0} (xs : List X) (i : ℕ) (x d : X) → slice_get xs i ≡ Some x → (i < length xs) × (get_or xs i d ≡ x)
-nth_at [] i x d e = let z : ◌≡◌ {A = ℕ} 0 1 = cc in absurd (omega arith)
-nth_at (y ∷ xs) zero x d e = (omega arith, cc)
-nth_at (y ∷ xs) (suc i) x d e = let r = nth_at xs i x d e in (omega (arith, r.0), r.1)
+map_at f xs j d e = ap (get_or (map f xs) j) (sym e) ∙ get_or-map f xs j d

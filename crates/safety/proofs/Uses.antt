@@ -1,5 +1,6 @@
 -- A cycle that all places and services use.
 use Rattle.std.proofs.Common.{◌≡◌, ℕ, ◌+◌, ◌-◌, ◌<◌, ◌≤◌, true, cond, Some, None, Option, sym, refl, ap, ◌∙◌, subst, arith}
+use Rattle.std.specs.Prelude.{is_some}
 use Rattle.std.proofs.lemmas.Bool.{eq-eqb, false≢true, or_left, or_right}
 use Rattle.arbiter.specs.Counts.{sum_below}
 use Rattle.arbiter.specs.Events.{serves}
@@ -9,7 +10,7 @@ use Rattle.cluster.specs.declared.place.Place.TheVariants.{Idle, Working, Waitin
 use Rattle.cluster.specs.declared.place.Event.TheVariants.{CycleUsed}
 use Rattle.cluster.specs.declared.service.Service.{Service}
 use Rattle.cluster.specs.declared.stage.Stage.TheVariants.{AtWork}
-use Rattle.cluster.specs.Cycles.{is_some, service_used}
+use Rattle.cluster.specs.Cycles.{service_used}
 use Rattle.cluster.specs.Places.{after}
 use Rattle.safety.proofs.Accounts.{Paid, Past, Watched, met, met_le, spent_at, used_by_less, watched_on}
 use Rattle.safety.proofs.Agreement.{Linked, Timely, stands_held}
@@ -62,7 +63,7 @@ same_service None = refl
 same_service (Some y) = refl
 
 service_before : (u : Option Service) (y : Service) → service_used u ≡ Some y → (z : Service) × (u ≡ Some z) × (y.left ≡ z.left - 1)
-service_before None y e = absurd (none_some y e)
+service_before None y e = cc
 service_before (Some z) y e = (z, refl, sym cc)
 
 module _ {A : Type 0} (c : Setting A) where

@@ -1,2 +1,2 @@
-pub mod Every
 pub mod Lowest
+pub mod Taken

@@ -1,25 +1,22 @@
--- The lowest row that passes a test; b is what the test of row k answers.
+-- What a chain's `position` answers is the lowest row that passes.
 -- Assumes nothing.
-use Rattle.std.proofs.Common.{◌≡◌, ℕ, zero, suc, ◌+◌, ◌<◌, Bool, true, false, cond, Some, None, sym, ap, ◌∙◌, subst, ⊎_elim, add-one, arith}
+use Rattle.std.proofs.Common.{◌≡◌, ℕ, zero, suc, ◌<◌, Bool, true, false, cond, Option, Some, None, sym, refl, ap, ◌∙◌, ⊎_elim, arith}
 use Rattle.std.proofs.lemmas.Bool.{cases_eq}
 use Rattle.cluster.specs.Cycles.{lowest, or_else}
 
-module _ (f : ℕ → Bool) (k : ℕ) (b : Bool) (none : lowest k f ≡ None) (is : b ≡ f k) where
-  step : lowest (suc k) f ≡ cond b (Some k) None
-  step = ap (λ o. or_else o (cond (f k) (Some k) None)) none ∙ ap (λ x. cond x (Some k) None) (sym is)
+module _ (f : ℕ → Bool) where
+  lowest_none : (n : ℕ) → ((k : ℕ) → k < n → f k ≡ false) → lowest n f ≡ None
+  lowest_none zero h = refl
+  lowest_none (suc n) h = ap (λ o. or_else o (cond (f n) (Some n) None)) (lowest_none n (λ k l. h k (omega arith))) ∙ ap (λ b. cond b (Some n) None) (h n (omega arith))
 
-  -- No row so far, and not this one.
-  pub lowest_more : b ≡ false → lowest (k + 1) f ≡ None
-  lowest_more fails = subst (λ n. lowest n f ≡ None) (sym (add-one k)) (step ∙ ap (λ x. cond x (Some k) None) fails)
-
-  found : (n : ℕ) → k < n → b ≡ true → lowest n f ≡ Some k
-  found zero l passes = absurd (omega arith)
-  found (suc n) l passes =
+  lowest_some : (n i : ℕ) → i < n → f i ≡ true → lowest i f ≡ None → lowest n f ≡ Some i
+  lowest_some zero i l passes none = absurd (omega arith)
+  lowest_some (suc n) i l passes none =
       ⊎_elim
-      (λ here. subst (λ j. lowest (suc j) f ≡ Some k) here (step ∙ ap (λ x. cond x (Some k) None) passes))
-      (λ on. ap (λ o. or_else o (cond (f n) (Some n) None)) (found n (omega arith) passes))
-      (cases_eq k n)
+      (λ here. ap (λ k. lowest (suc k) f) (sym here) ∙ ap (λ o. or_else o (cond (f i) (Some i) None)) none ∙ ap (λ b. cond b (Some i) None) passes)
+      (λ on. ap (λ o. or_else o (cond (f n) (Some n) None)) (lowest_some n i (omega arith) passes none))
+      (cases_eq i n)
 
-  -- No row before this one, which passes.
-  pub lowest_found : (n : ℕ) → k < n → b ≡ true → Some k ≡ lowest n f
-  lowest_found n l passes = sym (found n l passes)
+  pub lowest_is : (n : ℕ) (o : Option ℕ) → (o ≡ None → (k : ℕ) → k < n → f k ≡ false) → ((i : ℕ) → o ≡ Some i → (i < n) × (f i ≡ true) × ((k : ℕ) → k < i → f k ≡ false)) → o ≡ lowest n f
+  lowest_is n None none some = sym (lowest_none n (none refl))
+  lowest_is n (Some i) none some = let at = some i refl in sym (lowest_some n i at.0 at.1 (lowest_none i at.2))

@@ -2,7 +2,5 @@
 #![tactic(auto)]
 
 mod conditions;
-mod heads;
 
-pub use conditions::refusal_of;
-pub use heads::head_of;
+pub use conditions::ask;

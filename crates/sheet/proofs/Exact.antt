@@ -4,6 +4,7 @@ use Rattle.std.proofs.lemmas.List.{drop_at, drop-drop, drop_more, drop_all, get_
 use Rattle.std.proofs.lemmas.Bool.{and_parts, cond_both, cond-true, eqb-true, eq-eqb, and_from}
 use Rattle.std.proofs.lemmas.Bool.Decides.{nat_tests}
 use Rattle.std.specs.Option.{ok_or}
+use Rattle.sheet.specs.declared.faults.Cause.{Cause}
 use Rattle.sheet.specs.declared.faults.Cause.TheVariants.{WrongLength, IllFormedField}
 use Rattle.sheet.specs.declared.faults.Flaw.{Flaw}
 use Rattle.sheet.specs.declared.lines.Make.{Make}
@@ -11,7 +12,7 @@ use Rattle.sheet.specs.declared.lines.Make.TheVariants.{Ring, Bostan}
 use Rattle.sheet.specs.Columns.{justified, column}
 use Rattle.sheet.specs.Fields.{number, named, name}
 use Rattle.sheet.specs.Lines.{then, flaw, number_at, name_at, make_of, head_line, task_line, demand_line, dependency_line, sized, parsed}
-use Rattle.sheet.specs.Rows.{Row, head, task, demand, dependency, make_number, written, Writable}
+use Rattle.sheet.specs.Rows.{Row, head, task, demand, dependency, make_number, GivesMake, written, Writable}
 use Rattle.sheet.proofs.Justified.{length_column, number_column, column_number, length_name, name_justified, justified_name}
 
 -- a chain of questions, all answered
@@ -93,6 +94,9 @@ make_there n Bostan e = grind (arith, nat_tests)
 make_read : (m : Make) → make_of (make_number m) ≡ Ok m
 make_read Ring = refl
 make_read Bostan = refl
+
+pub no_make : (n : ℕ) (c : Cause) → GivesMake n (Err c) → make_of n ≡ Err (flaw c 1)
+no_make n c (e, none) = let one = none Ring in let two = none Bostan in grind (arith, nat_tests)
 
 pub make_small : (m : Make) → make_number m < 10 ^ 10
 make_small Ring = omega arith

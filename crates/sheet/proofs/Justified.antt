@@ -4,12 +4,13 @@ use native.Mathlib.Nat.{sub_self}
 use lib.ListN.{length-replicate}
 use Rattle.std.proofs.ByRecursion.{All-append}
 use Rattle.std.proofs.lemmas.Fmt.{decimal_digit, decimal_nonempty, decimal-digits_value, digits_decimal, first_decimal, length-decimal-le, digits_value-decimal}
+use Rattle.std.proofs.lemmas.Option.{cond_some}
 use Rattle.std.proofs.lemmas.Str.Parse.{IsNumeralModel, numerals_by_value, tells_all_ascii_digits, digits_value_short}
 use Rattle.std.proofs.lemmas.Bool.{and_parts, both_ways, cases_eq, cond-true, cond-false, eq-eqb, leb-true, ltb-true, ne_eqb}
 use Rattle.std.proofs.lemmas.Bool.Decides.{nat_tests}
 use Rattle.std.specs.Str.Parse.{digits_value}
 use Rattle.std.specs.Int.{is_in_range}
-use Rattle.std.specs.List.{AllByRecursion}
+use Rattle.std.specs.List.{AllByRecursion, list_all}
 use Rattle.std.specs.Str.{all_ascii_digits}
 use Rattle.sheet.specs.Columns.{justified, column}
 use Rattle.sheet.specs.Fields.{unpadded, numeral, number, visible, named, name}
@@ -57,12 +58,19 @@ length_justified w text h = simp (length-append, length-replicate) (omega arith)
 
 -- numbers
 
-own : IsNumeralModel (λ ds. all_ascii_digits ds ≡ true) (digits_value 10)
+pub own : IsNumeralModel (λ ds. all_ascii_digits ds ≡ true) (digits_value 10)
 own = numerals_by_value (λ ds. all_ascii_digits ds ≡ true) tells_all_ascii_digits
 
-first_digit : (ds : List ℕ) → 0 < length ds → all_ascii_digits ds ≡ true → 48 ≤ get_or ds 0 0
-first_digit [] h e = absurd (omega arith)
-first_digit (d ∷ ds) h e = let p = (and_parts (is_in_range 48 57 d) (all_ascii_digits ds) e).0 in grind (arith, nat_tests)
+pub numeral_parts : (ds : List ℕ) → numeral ds ≡ true → (0 < length ds) × (all_ascii_digits ds ≡ true)
+numeral_parts ds e =
+    let s = and_parts (ltb 0 (length ds)) (all_ascii_digits ds && (not (eqb (get_or ds 0 0) 48) || eqb (length ds) 1)) e in
+    let d = and_parts (all_ascii_digits ds) (not (eqb (get_or ds 0 0) 48) || eqb (length ds) 1) s.1 in
+    (ltb-true 0 (length ds) s.0, d.0)
+
+-- the first of some bytes that all pass a test
+first_passes : (test : ℕ → Bool) (bs : List ℕ) → 0 < length bs → list_all test bs ≡ true → test (get_or bs 0 0) ≡ true
+first_passes test [] h e = absurd (omega arith)
+first_passes test (b ∷ bs) h e = (and_parts (test b) (list_all test bs) e).0
 
 module _ (n : ℕ) (small : n < 10 ^ 10) where
   decimal_digits : all_ascii_digits (decimal n) ≡ true
@@ -82,32 +90,22 @@ module _ (n : ℕ) (small : n < 10 ^ 10) where
 
   pub number_column : number (column 10 n) ≡ Some n
   number_column =
-      let f = first_digit (decimal n) (decimal_nonempty n (omega arith)) decimal_digits in
-      let u : unpadded (column 10 n) ≡ decimal n = unpadded_justified 10 (decimal n) (λ e. omega arith) in
+      let f = first_passes (is_in_range 48 57) (decimal n) (decimal_nonempty n (omega arith)) decimal_digits in
+      let u : unpadded (column 10 n) ≡ decimal n = unpadded_justified 10 (decimal n) (λ e. grind (arith, nat_tests)) in
       ap (λ ds. cond (numeral ds) (Some (digits_value 10 ds)) None) u
       ∙ (cond-true (numeral (decimal n)) (Some (digits_value 10 (decimal n))) None decimal_numeral ∙ ap Some (digits_value-decimal own n (omega arith)))
-
--- what a `cond` that is `Some` tells
-some_then : {A : Type 0} (b : Bool) (v x : A) → cond b (Some v) None ≡ Some x → (b ≡ true) × (v ≡ x)
-some_then true v x e = (refl, cc)
-some_then false v x e = absurd (let z : ◌≡◌ {A = ℕ} 0 1 = cc in omega arith)
 
 pub column_number : (field : List ℕ) (n : ℕ) → length field ≡ 10 → number field ≡ Some n → (n < 10 ^ 10) × (field ≡ column 10 n)
 column_number field n ten e =
     let u = unpadded field in
-    let p = some_then (numeral u) (digits_value 10 u) n e in
-    let s = and_parts (ltb 0 (length u)) (all_ascii_digits u && (not (eqb (get_or u 0 0) 48) || eqb (length u) 1)) p.0 in
-    let d = and_parts (all_ascii_digits u) (not (eqb (get_or u 0 0) 48) || eqb (length u) 1) s.1 in
+    let p = cond_some (numeral u) (digits_value 10 u) n e in
+    let d = numeral_parts u p.0 in
     let short = length_unpadded field in
-    let v : digits_value 10 u < 10 ^ 10 = digits_value_short own u 10 d.0 (omega arith) in
-    let w : decimal (digits_value 10 u) ≡ u = decimal-digits_value own u d.0 (grind (arith, nat_tests)) (λ z. grind (arith, nat_tests)) (omega arith) in
+    let v : digits_value 10 u < 10 ^ 10 = digits_value_short own u 10 d.1 (omega arith) in
+    let w : decimal (digits_value 10 u) ≡ u = decimal-digits_value own u d.1 (grind (arith, nat_tests)) (λ z. grind (arith, nat_tests)) (omega arith) in
     (omega (arith, p.1), sym (justified_unpadded field) ∙ (ap (λ k. justified k u) ten ∙ ap (justified 10) (sym w ∙ ap decimal p.1)))
 
 -- names
-
-first_visible : (bs : List ℕ) → 0 < length bs → visible bs ≡ true → 33 ≤ get_or bs 0 0
-first_visible [] h e = absurd (omega arith)
-first_visible (b ∷ bs) h e = let p = (and_parts (is_in_range 33 126 b) (visible bs) e).0 in grind (arith, nat_tests)
 
 named_parts : (bs : List ℕ) → named bs ≡ true → (0 < length bs) × (length bs ≤ 12) × (visible bs ≡ true)
 named_parts bs e =
@@ -122,14 +120,14 @@ module _ (bs : List ℕ) (good : named bs ≡ true) where
   pub name_justified : name (32 ∷ justified 12 bs) ≡ Some bs
   name_justified =
       let p = named_parts bs good in
-      let f = first_visible bs p.0 p.2 in
-      let u : unpadded (justified 12 bs) ≡ bs = unpadded_justified 12 bs (λ e. omega arith) in
+      let f = first_passes (is_in_range 33 126) bs p.0 p.2 in
+      let u : unpadded (justified 12 bs) ≡ bs = unpadded_justified 12 bs (λ e. grind (arith, nat_tests)) in
       ap (λ t. cond (named t) (Some t) None) u ∙ cond-true (named bs) (Some bs) None good
 
 pub justified_name : (field bs : List ℕ) → length field ≡ 13 → name field ≡ Some bs → (named bs ≡ true) × (field ≡ 32 ∷ justified 12 bs)
 justified_name field bs wide e =
     let u = unpadded field in
-    let p = some_then (named u) u bs e in
+    let p = cond_some (named u) u bs e in
     let q = named_parts u p.0 in (
       ap named (sym p.1) ∙ p.0,
       sym (justified_unpadded field)
@@ -141,11 +139,11 @@ justified_name field bs wide e =
 abbrev pub Unbroken : List ℕ → Type 0
 Unbroken = AllByRecursion (λ b. b ≡ 10 → ⊥)
 
-unbroken_by : (test : ℕ → Bool) (all : List ℕ → Bool) → ((c : ℕ) (cs : List ℕ) → all (c ∷ cs) ≡ test c && all cs) → test 10 ≡ false → (bs : List ℕ) → all bs ≡ true → Unbroken bs
-unbroken_by test all step none [] e = tt
-unbroken_by test all step none (b ∷ bs) e =
-    let p = and_parts (test b) (all bs) (sym (step b bs) ∙ e) in
-    (λ z. both_ways (test 10) none (ap test (sym z) ∙ p.0), unbroken_by test all step none bs p.1)
+unbroken_by : (test : ℕ → Bool) → test 10 ≡ false → (bs : List ℕ) → list_all test bs ≡ true → Unbroken bs
+unbroken_by test none [] e = tt
+unbroken_by test none (b ∷ bs) e =
+    let p = and_parts (test b) (list_all test bs) e in
+    (λ z. both_ways (test 10) none (ap test (sym z) ∙ p.0), unbroken_by test none bs p.1)
 
 unbroken_spaces : (k : ℕ) → Unbroken (replicate k 32)
 unbroken_spaces zero = tt
@@ -155,8 +153,8 @@ unbroken_justified : (w : ℕ) (text : List ℕ) → Unbroken text → Unbroken 
 unbroken_justified w text h = All-append (λ b. b ≡ 10 → ⊥) (replicate (w - length text) 32) text (unbroken_spaces (w - length text)) h
 
 pub unbroken_column : (n : ℕ) → n < 10 ^ 10 → Unbroken (column 10 n)
-unbroken_column n small = unbroken_justified 10 (decimal n) (unbroken_by (is_in_range 48 57) all_ascii_digits (λ _ _. refl) refl (decimal n) (decimal_digits n small))
+unbroken_column n small = unbroken_justified 10 (decimal n) (unbroken_by (is_in_range 48 57) refl (decimal n) (decimal_digits n small))
 
 pub unbroken_name : (bs : List ℕ) → named bs ≡ true → Unbroken (32 ∷ justified 12 bs)
 unbroken_name bs good =
-    (λ z. omega arith, unbroken_justified 12 bs (unbroken_by (is_in_range 33 126) visible (λ _ _. refl) refl bs (named_parts bs good).2))
+    (λ z. omega arith, unbroken_justified 12 bs (unbroken_by (is_in_range 33 126) refl bs (named_parts bs good).2))

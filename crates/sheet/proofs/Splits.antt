@@ -1,8 +1,11 @@
 -- The lines of a sheet: where the first one ends, and what a written line does to them. Assumes nothing.
-use Rattle.std.proofs.Common.{◌≡◌, ℕ, ◌+◌, ◌^◌, ◌<◌, ◌≤◌, eqb, List, [], ◌∷◌, ◌++◌, length, get_or, take, drop, sym, refl, ap, ◌∙◌, subst, append_assoc, arith}
+use Rattle.std.proofs.Common.{◌≡◌, ℕ, zero, suc, ◌+◌, ◌^◌, ◌<◌, ◌≤◌, min, Bool, false, eqb, Some, None, Option, inl, inr, List, [], ◌∷◌, ◌++◌, length, get_or, take, drop, sym, refl, ap, ◌∙◌, subst, append_assoc, arith}
 use Rattle.std.proofs.ByRecursion.{All-append}
-use Rattle.std.proofs.lemmas.List.{append-nil, drop_all, drop_more, length-take-le, take_all, take-append-drop, take_more}
-use Rattle.std.proofs.lemmas.Bool.{cond-false, ne_eqb}
+use Rattle.std.proofs.lemmas.List.{append-nil, drop_all, drop_more, length-take-le, nil_from_length, take_all, take_at, take-append-drop, take_more}
+use Rattle.std.proofs.lemmas.Bool.{cases_lt, cond-false, eqb-false, eqb-true, ne_eqb}
+use Rattle.std.specs.Borrow.{Bor}
+use Rattle.std.specs.List.{IsFirstMatchOrLen}
+use Rattle.std.specs.Option.{MatchOption}
 use Rattle.sheet.specs.Columns.{justified, column}
 use Rattle.sheet.specs.Reading.{grown, lines}
 use Rattle.sheet.specs.Rows.{Row, head, task, demand, dependency, make_number, written, Writable}
@@ -33,7 +36,7 @@ lines_found bs i inside h e =
 
 -- the first line, cut off at its line feed or at the end
 
-pub first_found : (bs l : List ℕ) (i : ℕ) → i < length bs → Unbroken (take i bs) → get_or bs i 0 ≡ 10 → l ≡ take (i + 1) bs → First bs l
+first_found : (bs l : List ℕ) (i : ℕ) → i < length bs → Unbroken (take i bs) → get_or bs i 0 ≡ 10 → l ≡ take (i + 1) bs → First bs l
 first_found bs l i inside h e is =
     let n : length l ≡ i + 1 = ap length is ∙ length-take-le (i + 1) bs (omega arith) in
     record {
@@ -43,7 +46,7 @@ first_found bs l i inside h e is =
       inside = omega arith;
     }
 
-pub first_last : (bs : List ℕ) (i : ℕ) → 0 < length bs → length bs ≤ i → Unbroken (take i bs) → First bs bs
+first_last : (bs : List ℕ) (i : ℕ) → 0 < length bs → length bs ≤ i → Unbroken (take i bs) → First bs bs
 first_last bs i some past h =
     let u : Unbroken bs = subst Unbroken (take_all i bs past) h in
     let none : drop (length bs) bs ≡ [] = drop_all (length bs) bs (omega arith) in
@@ -53,6 +56,33 @@ first_last bs i some past h =
       some = some;
       inside = omega arith;
     }
+
+-- no byte before place i is a line feed
+unbroken_before : (bs : List ℕ) (i : ℕ) → ((k : ℕ) → k < i → eqb (get_or bs k 0) 10 ≡ false) → i ≤ length bs → Unbroken (take i bs)
+unbroken_before bs zero h le = tt
+unbroken_before [] (suc i) h le = tt
+unbroken_before (b ∷ bs) (suc i) h le = (eqb-false b 10 (h 0 (omega arith)), unbroken_before bs i (λ k l. h (suc k) (omega arith)) (omega arith))
+
+-- the first part of a sheet that is cut behind each line feed
+first_part : (bs l after : List ℕ) (i : ℕ) → bs ≡ l ++ after → length l ≡ min (i + 1) (length bs) → IsFirstMatchOrLen (λ b. eqb b 10) bs i → 0 < length bs → First bs l
+first_part bs l after i whole size match some =
+    let cut : l ≡ take (length l) bs = sym (ap (take (length l)) whole ∙ take_at l after (length l) refl) in
+    elim (cases_lt i (length bs)) [
+      | inl inside ↦
+          let n : length l ≡ i + 1 = omega arith in
+          first_found bs l i inside (unbroken_before bs i (λ k h. match.0 k 0 (omega arith) h) (omega arith)) (eqb-true (get_or bs i 0) 10 (match.1 inside 0)) (cut ∙ ap (λ k. take k bs) n)
+      | inr past ↦
+          let n : length l ≡ length bs = omega arith in
+          let same : l ≡ bs = cut ∙ take_all (length l) bs (omega arith) in
+          subst (First bs) (sym same) (first_last bs (length bs) some (omega arith) (unbroken_before bs (length bs) (λ k h. match.0 k 0 (omega arith) (omega arith)) (omega arith)))
+    ]
+
+-- what `split_inclusive` hands out first
+pub first_parts : (bs rest after : List ℕ) (o : Option (Bor (List ℕ))) (same : Type 0) (computes stays : (ℕ → Bool) → Type 0) → rest ≡ bs → computes (λ b. eqb b 10) → MatchOption o ((length rest ≡ 0) × same) (λ x. (rest ≡ x.now ++ after) × ((i : ℕ) × (length x.now ≡ min (i + 1) (length rest)) × ((p : ℕ → Bool) → computes p → stays p × IsFirstMatchOrLen p rest i)) × (0 < length rest)) → MatchOption o (bs ≡ []) (λ l. First bs l.now)
+first_parts bs rest after None same computes stays e by h = sym e ∙ nil_from_length rest h.0
+first_parts bs rest after (Some l) same computes stays e by (whole, (i, size, match), some) =
+    let P : List ℕ → Type 0 = λ r. First r l.now in
+    subst P e (first_part rest l.now after i whole size (match (λ b. eqb b 10) by).1 some)
 
 -- a written line ends with its one line feed
 

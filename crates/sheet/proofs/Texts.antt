@@ -1,34 +1,31 @@
--- What the loops over a field pass and find. Assumes nothing.
-use Rattle.std.proofs.Common.{◌≡◌, ℕ, ◌+◌, ◌-◌, ◌*◌, ◌^◌, ◌<◌, Bool, true, false, ◌&&◌, List, ◌∷◌, length, get_or, drop, sym, ap, ◌∙◌, pow-suc, add-one, arith}
-use Rattle.std.proofs.lemmas.List.{at_drop_more}
-use Rattle.std.proofs.lemmas.Bool.Decides.{nat_tests}
-use Rattle.std.specs.Str.Parse.{digits_value_after}
-use Rattle.std.specs.Char.{digit_value as digitValue}
-use Rattle.std.specs.Int.{is_in_range}
-use Rattle.sheet.specs.Fields.{unpadded}
+-- How the words for texts, which recur on the bytes, agree with the library's.
+-- Assumes nothing.
+use Rattle.std.proofs.Common.{◌≡◌, ℕ, suc, ◌+◌, ◌^◌, ◌<◌, ◌≤◌, true, false, cond, eqb, List, [], ◌∷◌, length, drop, Ok, Result, refl, ap, ◌∙◌, arith}
+use Rattle.std.proofs.lemmas.Fmt.{IsAscii-from_digits}
+use Rattle.std.proofs.lemmas.Str.{IsUtf8-from_ascii}
+use Rattle.std.proofs.lemmas.Str.Parse.{digits_value_short, parse_gives}
+use Rattle.std.specs.List.{prefix_len}
+use Rattle.std.specs.Str.{IsUtf8}
+use Rattle.std.specs.Str.Parse.{ParsesUnsigned, digits_value}
+use Rattle.sheet.specs.Fields.{numeral, unpadded}
+use Rattle.sheet.proofs.Justified.{numeral_parts, own}
 
-module _ (bs : List ℕ) (i : ℕ) (inside : i < length bs) where
-  pub unpadded_space : get_or bs i 0 ≡ 32 → unpadded (drop i bs) ≡ unpadded (drop (i + 1) bs)
-  unpadded_space e = at_drop_more unpadded bs i 0 inside ∙ grind (arith, nat_tests)
+pub unpadded-drop : (bs : List ℕ) → unpadded bs ≡ drop (prefix_len (λ b. eqb b 32) bs) bs
+unpadded-drop [] = refl
+unpadded-drop (b ∷ bs) =
+    let n = prefix_len (λ c. eqb c 32) bs in
+    let more : suc n ≡ 1 + n = omega arith in
+    elim (eqb b 32) as (λ t. cond t (unpadded bs) (b ∷ bs) ≡ drop (cond t (1 + n) 0) (b ∷ bs)) [
+      | true ↦ unpadded-drop bs ∙ ap (λ k. drop k (b ∷ bs)) more
+      | false ↦ refl
+    ]
 
-  pub unpadded_here : (get_or bs i 0 ≡ 32 → ⊥) → unpadded (drop i bs) ≡ drop i bs
-  unpadded_here n = at_drop_more unpadded bs i 0 inside ∙ (grind (arith, nat_tests) ∙ sym (at_drop_more (λ xs. xs) bs i 0 inside))
+module _ (ds : List ℕ) (good : numeral ds ≡ true) where
+  pub numeral_text : IsUtf8 ds
+  numeral_text = IsUtf8-from_ascii ds (IsAscii-from_digits ds (own.to ds (numeral_parts ds good).1))
 
-  -- of a test that every byte has to pass
-  module _ (test : ℕ → Bool) (all : List ℕ → Bool) (step : (c : ℕ) (cs : List ℕ) → all (c ∷ cs) ≡ test c && all cs) where
-    pub all_here : test (get_or bs i 0) ≡ true → all (drop i bs) ≡ all (drop (i + 1) bs)
-    all_here e = at_drop_more all bs i 0 inside ∙ (step (get_or bs i 0) (drop (i + 1) bs) ∙ ap (λ t. t && all (drop (i + 1) bs)) e)
-
-    pub all_stops : test (get_or bs i 0) ≡ false → all (drop i bs) ≡ false
-    all_stops e = at_drop_more all bs i 0 inside ∙ (step (get_or bs i 0) (drop (i + 1) bs) ∙ ap (λ t. t && all (drop (i + 1) bs)) e)
-
-digit_value : (c : ℕ) → is_in_range 48 57 c ≡ true → digitValue c ≡ c - 48
-digit_value c h = grind (arith, nat_tests)
-
-pub value_here : (bs : List ℕ) (i n : ℕ) → i < length bs → is_in_range 48 57 (get_or bs i 0) ≡ true → digits_value_after 10 n (drop i bs) ≡ digits_value_after 10 (10 * n + (get_or bs i 0 - 48)) (drop (i + 1) bs)
-value_here bs i n inside h =
-    at_drop_more (digits_value_after 10 n) bs i 0 inside
-    ∙ ap (λ m. digits_value_after 10 m (drop (i + 1) bs)) (let e = digit_value (get_or bs i 0) h in omega arith)
-
-pub bound_here : (n c i : ℕ) → n < 10 ^ i → is_in_range 48 57 c ≡ true → 10 * n + (c - 48) < 10 ^ (i + 1)
-bound_here n c i h k = rw (add-one, pow-suc) (grind (arith, nat_tests))
+  pub numeral_parsed : {E : Type 0} (r : Result ℕ E) → length ds ≤ 10 → ParsesUnsigned 64 10 ds r → r ≡ Ok (digits_value 10 ds)
+  numeral_parsed r short h =
+      let p = numeral_parts ds good in
+      let v : digits_value 10 ds < 10 ^ 10 = digits_value_short own ds 10 p.1 short in
+      parse_gives own 64 ds r h p.1 p.0 (omega arith)

@@ -1,7 +1,8 @@
 -- What stands in a field of a line: a number or a name, after leading spaces.
-use Rattle.std.specs.Prelude.{ℕ, Bool, true, cond, not, ◌&&◌, ◌||◌, List, [], ◌∷◌, length, Some, None, Option, ◌==◌, nat_le, nat_lt, slice_index}
+use Rattle.std.specs.Prelude.{ℕ, Bool, cond, not, ◌&&◌, ◌||◌, List, [], ◌∷◌, length, Some, None, Option, ◌==◌, nat_le, nat_lt, slice_index}
 use Rattle.std.specs.Str.Parse.{digits_value}
 use Rattle.std.specs.Int.{is_in_range}
+use Rattle.std.specs.List.{list_all}
 use Rattle.std.specs.Str.{all_ascii_digits}
 
 -- what follows the leading spaces
@@ -19,8 +20,7 @@ number field = cond (numeral (unpadded field)) (Some (digits_value 10 (unpadded 
 
 -- every byte is from 33 to 126
 abbrev pub visible : List ℕ → Bool
-visible [] = true
-visible (b ∷ bs) = is_in_range 33 126 b && visible bs
+visible bs = list_all (is_in_range 33 126) bs
 
 -- 1 to 12 bytes from 33 to 126
 abbrev pub named : List ℕ → Bool

@@ -1,5 +1,7 @@
 -- What a line of a sheet says, and the one way to write it.
-use Rattle.std.specs.Prelude.{◌≡◌, ℕ, ◌^◌, ◌<◌, true, List, [], ◌∷◌, ◌++◌}
+use Rattle.std.specs.Prelude.{◌≡◌, ◌≢◌, ℕ, ◌^◌, ◌<◌, true, List, [], ◌∷◌, ◌++◌, Ok, Err, Result}
+use Rattle.sheet.specs.declared.faults.Cause.{Cause}
+use Rattle.sheet.specs.declared.faults.Cause.TheVariants.{UnknownMake}
 use Rattle.sheet.specs.declared.lines.Line.{Line}
 use Rattle.sheet.specs.declared.lines.Line.TheVariants as lines
 use Rattle.sheet.specs.declared.lines.Make.{Make}
@@ -25,6 +27,11 @@ row_of (lines.Dependency row) = dependency row
 abbrev pub make_number : Make → ℕ
 make_number Ring = 1
 make_number Bostan = 2
+
+-- the make that has a number; a number that none has is refused
+abbrev pub GivesMake : ℕ → Result Make Cause → Type 0
+GivesMake n (Ok make) = n ≡ make_number make
+GivesMake n (Err cause) = (cause ≡ UnknownMake) × ((make : Make) → n ≢ make_number make)
 
 -- a line: its letter (C is 67, T 84, M 77, D 68), its fields and a line feed (10); a space (32) stands before a name
 abbrev pub written : Row → List ℕ

@@ -1,59 +1,61 @@
 // What stands in a field of a line.
-ghost use Rattle.std.specs.Prelude.{◌≡◌, ◌≤◌, length, if◌then◌else◌, Some, None};
-ghost use Rattle.std.specs.Str.Parse.{digits_value};
-ghost use Rattle.sheet.specs.Fields.{unpadded, numeral, number, named};
+ghost use Rattle.std.specs.Prelude.{◌≡◌, ◌==◌, ◌≤◌, length};
+ghost use Rattle.std.specs.Int.{is_in_range};
+ghost use Rattle.std.specs.List.{list_all, prefix_len};
+ghost use Rattle.sheet.specs.Fields.{unpadded, numeral, number, visible, named};
+
+fn leading_spaces(field: &[u8]) -> usize
+    ensures value { result ≡ prefix_len (λ b. b == 32) field.now }
+    ensures bound { result ≤ length field.now }
+{
+    field.iter().take_while(|b| **b == b' ').count()
+}
 
 // What follows the leading spaces.
 pub(crate) fn unpadded(field: &[u8]) -> &[u8]
     ensures text { result.now ≡ unpadded field.now }
     ensures len { length result.now ≤ length field.now }
 {
-    for (i, b) in field.iter().enumerate() {
-        if *b != b' ' {
-            let (_, text) = field.split_at(i);
-            return text;
-        }
-    }
-    &[]
+    &field[leading_spaces(field)..]
 }
 
-// The number that digits without leading zeros write.
-fn value_of(digits: &[u8]) -> Option<u64>
-    requires { length digits.now ≤ 10 }
-    ensures { result ≡ (if numeral digits.now then Some (digits_value 10 digits.now) else None) }
+fn are_digits(bytes: &[u8]) -> bool
+    ensures { result ≡ list_all (is_in_range 48 57) bytes.now }
 {
-    if digits.is_empty() || digits[0] == b'0' && digits.len() > 1 {
-        return None;
-    }
-    let mut total = 0;
-    for d in digits {
-        if !d.is_ascii_digit() {
-            return None;
-        }
-        total = 10 * total + u64::from(*d - b'0');
-    }
-    Some(total)
+    bytes.iter().all(|b| b.is_ascii_digit())
 }
 
-// The number in a field.
+// Whether these are the digits of a number, without leading zeros.
+fn is_numeral(digits: &[u8]) -> bool
+    ensures { result ≡ numeral digits.now }
+{
+    match digits {
+        [] | [b'0', _, ..] => false,
+        _ => are_digits(digits),
+    }
+}
+
+// The number in a field. `parse` alone would take a sign and leading zeros.
 pub(crate) fn read_number(field: &[u8]) -> Option<u64>
     requires { length field.now ≤ 10 }
     ensures { result ≡ number field.now }
 {
-    value_of(unpadded(field))
+    let digits = unpadded(field);
+    if !is_numeral(digits) {
+        return None;
+    }
+    str::from_utf8(digits).ok()?.parse().ok()
+}
+
+fn are_visible(bytes: &[u8]) -> bool
+    ensures { result ≡ visible bytes.now }
+{
+    bytes.iter().all(|b| b.is_ascii_graphic())
 }
 
 // Whether these bytes can be a name.
 pub(crate) fn is_name(bytes: &[u8]) -> bool
     ensures { result ≡ named bytes.now }
 {
-    if bytes.is_empty() || bytes.len() > 12 {
-        return false;
-    }
-    for b in bytes {
-        if !b.is_ascii_graphic() {
-            return false;
-        }
-    }
-    true
+    (1..=12).contains(&bytes.len()) && are_visible(bytes)
 }

@@ -1,10 +1,28 @@
 // The lines of a sheet.
+ghost use Rattle.sheet.specs.Rows.{GivesMake};
+
+use crate::faults::Cause;
 
 // Which arbiter a bank has: a ring over all places, or the Bostan pile.
 #[derive(Clone, Copy, PartialEq, Eq, Debug)]
 pub enum Make {
     Ring,
     Bostan,
+}
+
+// The make that has this number.
+impl TryFrom<u64> for Make {
+    type Error = Cause;
+
+    ghost try_from_gives = { λ n r. GivesMake n r };
+
+    fn try_from(n: u64) -> Result<Make, Cause> {
+        match n {
+            1 => Ok(Make::Ring),
+            2 => Ok(Make::Bostan),
+            _ => Err(Cause::UnknownMake),
+        }
+    }
 }
 
 // A line by what it is. A task's name stays part of the sheet.

@@ -1,6 +1,6 @@
 // Reads one line: its letter, its length, its fields, its make.
 ghost use Rattle.std.specs.Prelude.{◌≡◌, ◌+◌, ◌*◌, ◌≤◌, length, IfOk};
-ghost use Rattle.sheet.specs.Lines.{number_at, name_at, make_of, head_line, task_line, demand_line, dependency_line, sized, parsed, line_view, bytes_view};
+ghost use Rattle.sheet.specs.Lines.{number_at, name_at, head_line, task_line, demand_line, dependency_line, sized, parsed, line_view, bytes_view};
 
 use crate::faults::{Cause, Flaw};
 use crate::fields::{is_name, read_number, unpadded};
@@ -11,14 +11,10 @@ fn read_field(line: &[u8], k: usize) -> Result<u64, Flaw>
     requires { 10 * k + 11 ≤ length line.now }
     ensures { result ≡ number_at line.now k }
 {
-    let from = 10 * k + 1;
-    match read_number(&line[from..from + 10]) {
-        Some(n) => Ok(n),
-        None => Err(Flaw {
-            cause: Cause::IllFormedField,
-            column: from + 1,
-        }),
-    }
+    read_number(&line[10 * k + 1..][..10]).ok_or(Flaw {
+        cause: Cause::IllFormedField,
+        column: 10 * k + 2,
+    })
 }
 
 // The name of a task line.
@@ -37,24 +33,8 @@ fn read_name(line: &[u8]) -> Result<&[u8], Flaw>
     }
 }
 
-// The make of a number.
-fn read_make(n: u64) -> Result<Make, Flaw>
-    ensures { result ≡ make_of n }
-{
-    if n == 1 {
-        Ok(Make::Ring)
-    } else if n == 2 {
-        Ok(Make::Bostan)
-    } else {
-        Err(Flaw {
-            cause: Cause::UnknownMake,
-            column: 1,
-        })
-    }
-}
-
 // The fields of a head, and then its make.
-fn read_head<'a>(line: &'a [u8]) -> Result<Line<'a>, Flaw>
+fn read_head(line: &[u8]) -> Result<Line<'_>, Flaw>
     requires { length line.now ≡ 52 }
     ensures { line_view result ≡ head_line line.now }
 {
@@ -63,7 +43,7 @@ fn read_head<'a>(line: &'a [u8]) -> Result<Line<'a>, Flaw>
     let banks = read_field(line, 2)?;
     let latency = read_field(line, 3)?;
     let period = read_field(line, 4)?;
-    let make = read_make(make)?;
+    let make = Make::try_from(make)?;
     Ok(Line::Head {
         make,
         places,
@@ -74,7 +54,7 @@ fn read_head<'a>(line: &'a [u8]) -> Result<Line<'a>, Flaw>
 }
 
 // The fields of a task.
-fn read_task<'a>(line: &'a [u8]) -> Result<Line<'a>, Flaw>
+fn read_task(line: &[u8]) -> Result<Line<'_>, Flaw>
     requires { length line.now ≡ 45 }
     ensures { line_view result ≡ task_line line.now }
 {
@@ -91,7 +71,7 @@ fn read_task<'a>(line: &'a [u8]) -> Result<Line<'a>, Flaw>
 }
 
 // The fields of a demand.
-fn read_demand<'a>(line: &'a [u8]) -> Result<Line<'a>, Flaw>
+fn read_demand(line: &[u8]) -> Result<Line<'_>, Flaw>
     requires { length line.now ≡ 22 }
     ensures { line_view result ≡ demand_line line.now }
 {
@@ -101,7 +81,7 @@ fn read_demand<'a>(line: &'a [u8]) -> Result<Line<'a>, Flaw>
 }
 
 // The field of a dependency.
-fn read_dependency<'a>(line: &'a [u8]) -> Result<Line<'a>, Flaw>
+fn read_dependency(line: &[u8]) -> Result<Line<'_>, Flaw>
     requires { length line.now ≡ 12 }
     ensures { line_view result ≡ dependency_line line.now }
 {
@@ -111,38 +91,26 @@ fn read_dependency<'a>(line: &'a [u8]) -> Result<Line<'a>, Flaw>
 
 // The line, if it has this many bytes and the last is a line feed.
 fn sized(line: &[u8], size: usize) -> Result<&[u8], Flaw>
-    requires { 1 ≤ size }
     ensures value { bytes_view result ≡ sized size line.now }
     ensures len { IfOk result (λ x. length x.now ≡ size) }
 {
-    if line.len() == size && line[size - 1] == b'\n' {
+    if line.len() == size && line.ends_with(b"\n") {
         Ok(line)
     } else {
-        Err(Flaw {
-            cause: Cause::WrongLength,
-            column: 1,
-        })
+        Err(Cause::WrongLength.into())
     }
 }
 
 // What a line says, or what is wrong with it.
-pub(crate) fn parse<'a>(line: &'a [u8]) -> Result<Line<'a>, Flaw>
+pub(crate) fn parse(line: &[u8]) -> Result<Line<'_>, Flaw>
     requires { 1 ≤ length line.now }
     ensures { line_view result ≡ parsed line.now }
 {
-    let letter = line[0];
-    if letter == b'C' {
-        read_head(sized(line, 52)?)
-    } else if letter == b'T' {
-        read_task(sized(line, 45)?)
-    } else if letter == b'M' {
-        read_demand(sized(line, 22)?)
-    } else if letter == b'D' {
-        read_dependency(sized(line, 12)?)
-    } else {
-        Err(Flaw {
-            cause: Cause::UnknownLetter,
-            column: 1,
-        })
+    match line[0] {
+        b'C' => read_head(sized(line, 52)?),
+        b'T' => read_task(sized(line, 45)?),
+        b'M' => read_demand(sized(line, 22)?),
+        b'D' => read_dependency(sized(line, 12)?),
+        _ => Err(Cause::UnknownLetter.into()),
     }
 }

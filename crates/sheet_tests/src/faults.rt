@@ -2,34 +2,22 @@
 use sheet::faults::Fault;
 use sheet::reader::Sheet;
 
-// The first fault of a sheet, if it has one.
-fn first_fault(bytes: &[u8]) -> Option<Fault> {
+// Reads a sheet to its end, or to its first fault.
+fn read_all(bytes: &[u8]) -> Result<(), Fault> {
     let mut sheet = Sheet::new(bytes);
-    for _ in 0..bytes.len() {
-        match sheet.next() {
-            Ok(Some(_)) => {}
-            Ok(None) => return None,
-            Err(fault) => return Some(fault),
-        }
-    }
-    None
+    while sheet.next()?.is_some() {}
+    Ok(())
 }
 
 fn has_fault(bytes: &[u8], number: u32, line: usize, column: usize) -> bool {
-    match first_fault(bytes) {
-        Some(f) => f.number() == number && f.line == line && f.column == column,
-        None => false,
-    }
+    read_all(bytes).is_err_and(|f| f.number() == number && f.line == line && f.column == column)
 }
 
 // Each of these sheets has its first fault in line 1, with this number and column.
 fn all_refused(sheets: &[&[u8]], number: u32, column: usize) -> bool {
-    for bytes in sheets {
-        if !has_fault(bytes, number, 1, column) {
-            return false;
-        }
-    }
-    true
+    sheets
+        .iter()
+        .all(|bytes| has_fault(bytes, number, 1, column))
 }
 
 #[test]
@@ -45,7 +33,7 @@ fn accepted_sheets(rt: HostRuntime) {
         b"T         0         5         0 !~!~!~!~!~!~\n",
     ];
     for bytes in sheets {
-        assert!(rt; first_fault(bytes).is_none());
+        assert!(rt; read_all(bytes).is_ok());
     }
 }
 

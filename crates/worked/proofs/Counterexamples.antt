@@ -38,7 +38,7 @@ unlawful {s = s} {v} {es} {xs} k laws =
 
 -- With nothing in service, a trace may start for whoever does not wait.
 start_idle : {S : Type 0} {m : Model S} {s : ℕ} {a : S} → m.waiting a s ≡ false → Start m s a None
-start_idle idle = record { idle = idle; other = refl; picked = λ o e. let z : ◌≡◌ {A = ℕ} 0 1 = cc in absurd (omega arith) }
+start_idle idle = record { idle = idle; other = refl; picked = λ o e. cc }
 
 here : {x y : Bool} {l : Option ℕ} (known : Known l 2) → At x y l (two x y l known)
 here known = record { waiting = refl; last = refl; width = refl }
@@ -111,7 +111,7 @@ known_only : Known (Some 0) 1
 known_only s e = let same : s ≡ 0 = cc in omega arith
 
 known_nobody : Known None 1
-known_nobody s e = let z : ◌≡◌ {A = ℕ} 0 1 = cc in absurd (omega arith)
+known_nobody s e = cc
 
 quiet_only : (x : Bool) (o : ℕ) → 1 ≤ o → get_or (x ∷ replicate 31 false) o false ≡ false
 quiet_only x zero h = absurd (omega arith)

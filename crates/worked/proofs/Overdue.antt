@@ -57,7 +57,7 @@ asking s a q (Ok u) t free h = (refl, h.after, subst (λ x. Posted x q h.after) 
 asking s a q (Err f) t free h = absurd (never h.2.stood h.2.refuses)
   where
     never : {x : Ring} → Some a ≡ Some x → post_answer x.width (ring_waiting x) q ≡ Err h.2.refusal → ⊥
-    never e k = let z : ◌≡◌ {A = ℕ} 0 1 = cc in omega arith
+    never e k = cc
 
 ask_taken : (s : State Ring) (a : Ring) (q : ℕ) {cs : List Call} {rs : List CallAnswer} {u : State Ring} → ask_refusal plan (holding s a) q 0 ≡ None → post_answer a.width (ring_waiting a) q ≡ Ok tt → Leads (holding s a) (ask q 0 ∷ cs) rs u → AskTaken s a q cs rs u
 ask_taken s a q {cs} {u = u} free fits (then_ask {t = t} {r = r} {rs = rs} h more) =

@@ -20,7 +20,7 @@ waiters_quiet x y (suc zero) h = absurd (omega arith)
 waiters_quiet x y (suc (suc o)) h = getD_replicate_same 30 o false
 
 pub known_none : Known None 2
-known_none s e = let z : ◌≡◌ {A = ℕ} 0 1 = cc in absurd (omega arith)
+known_none s e = cc
 
 known_some : (o : ℕ) → o < 2 → Known (Some o) 2
 known_some o h s e = let same : s ≡ o = cc in omega arith

@@ -3,10 +3,10 @@ use Rattle.std.specs.Prelude.{◌≡◌, ℕ, ◌+◌, ◌<◌, min, false, ◌�
 use Rattle.arbiter.specs.Answers.{Accepts}
 use Rattle.arbiter.specs.Events.{Event, Trace, delay, done, one, pick, post, posts}
 use Rattle.arbiter.specs.Laws.{Lawful, Start, accesses}
-use Rattle.arbiter.specs.Meaning.{Model, meaning}
+use Rattle.arbiter.specs.Meaning.{Model}
 use Rattle.rings.specs.declared.ring.Ring.{Ring}
 use Rattle.rings.specs.Order.{First}
-use Rattle.rings.specs.Rings.{Posted, ring, ring_moves, ring_waiting}
+use Rattle.rings.specs.Rings.{ring, ring_waiting}
 use Rattle.layers.specs.declared.pair.Pair.{Pair}
 use Rattle.layers.specs.Alternations.{alternates}
 use Rattle.layers.specs.Layers.{Formula, layer}
@@ -43,7 +43,7 @@ pub record PickedFrom0 (a : Ring) (s : ℕ) (b : Ring) : Type 0 where
   pub width : b.width ≡ a.width
 
 abbrev pub ring_from_0 : Model Ring
-ring_from_0 = meaning ring_waiting (λ a. a.last) (record { width = ring_moves.width; bound = ring_moves.bound; posted = Posted; picked = PickedFrom0 })
+ring_from_0 = record ring { picked = PickedFrom0 }
 
 -- Source 0 posts again after its service, and goes before source 1 twice.
 abbrev pub overtaken_twice : List Event

@@ -4,18 +4,10 @@
 ghost use Rattle.std.specs.Prelude.{◌≡◌, true};
 ghost use Rattle.worked.specs.Worked.{WorkedByHand};
 
-// The cases follow from the definitions.
-fn by_hand() -> bool
-    ensures answer { result ≡ true }
-    ensures cases { WorkedByHand }
-{
-    true
-}
-
 // Always true; its promise is the cases worked by hand.
 pub fn worked_by_hand() -> bool
     ensures answer { result ≡ true }
     ensures cases { WorkedByHand }
 {
-    by_hand()
+    true
 }

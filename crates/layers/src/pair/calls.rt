@@ -1,28 +1,21 @@
 // The questions, posts and picks of a pair.
 ghost use Rattle.std.specs.Prelude.{◌≡◌};
 ghost use Rattle.arbiter.specs.Answers.{waits_answer, someone, post_answer};
-ghost use Rattle.arbiter.specs.Given.{model};
-ghost use Rattle.layers.specs.Pairs.{fits, pair_width, pair_waiting, first_waits, second_waits, is_first, AfterPairPost, AfterDraw};
+ghost use Rattle.layers.specs.Pairs.{fits, pair_width, pair_waiting, first_waits, second_waits, AfterPairPost, AfterDraw};
 
 use super::{Pair, Side};
 use arbiter::{Arbiter, Refusal};
 
 impl<L: Arbiter, R: Arbiter> Pair<L, R> {
-    pub(crate) fn first_width(&self) -> usize
-        ensures { result ≡ (model L.Arbiter).width self.now.first }
-    {
-        self.first.width()
-    }
-
     // Are there at most 32 sources in all? Otherwise the pair is its first side alone.
     pub(crate) fn fits(&self) -> bool
-        ensures { result ≡ fits (model L.Arbiter) (model R.Arbiter) self.now }
+        ensures { result ≡ fits L.model R.model self.now }
     {
         self.first.width() + self.second.width() <= 32
     }
 
     pub(crate) fn width(&self) -> usize
-        ensures { result ≡ pair_width (model L.Arbiter) (model R.Arbiter) self.now }
+        ensures { result ≡ pair_width L.model R.model self.now }
     {
         let n = self.first.width();
         if self.fits() {
@@ -33,7 +26,7 @@ impl<L: Arbiter, R: Arbiter> Pair<L, R> {
     }
 
     pub(crate) fn waits(&self, s: usize) -> Result<bool, Refusal>
-        ensures { result ≡ waits_answer (pair_width (model L.Arbiter) (model R.Arbiter) self.now) (pair_waiting (model L.Arbiter) (model R.Arbiter) self.now) s }
+        ensures { result ≡ waits_answer (pair_width L.model R.model self.now) (pair_waiting L.model R.model self.now) s }
     {
         let n = self.first.width();
         if s < n {
@@ -46,36 +39,26 @@ impl<L: Arbiter, R: Arbiter> Pair<L, R> {
     }
 
     pub(crate) fn first_waits(&self) -> bool
-        ensures { result ≡ first_waits (model L.Arbiter) (model R.Arbiter) self.now }
+        ensures { result ≡ first_waits L.model R.model self.now }
     {
         self.first.anyone()
     }
 
     pub(crate) fn second_waits(&self) -> bool
-        ensures { result ≡ second_waits (model L.Arbiter) (model R.Arbiter) self.now }
+        ensures { result ≡ second_waits L.model R.model self.now }
     {
         self.fits() && self.second.anyone()
     }
 
     pub(crate) fn anyone(&self) -> bool
-        ensures { result ≡ someone (pair_width (model L.Arbiter) (model R.Arbiter) self.now) (pair_waiting (model L.Arbiter) (model R.Arbiter) self.now) }
+        ensures { result ≡ someone (pair_width L.model R.model self.now) (pair_waiting L.model R.model self.now) }
     {
         self.first_waits() || self.second_waits()
     }
 
-    // Was the first side picked from last?
-    pub(crate) fn first_latest(&self) -> bool
-        ensures { result ≡ is_first self.now.latest }
-    {
-        match self.latest {
-            Some(Side::First) => true,
-            _ => false,
-        }
-    }
-
     pub(crate) fn post(&mut self, s: usize) -> Result<(), Refusal>
-        ensures answer { result ≡ post_answer (pair_width (model L.Arbiter) (model R.Arbiter) self.old) (pair_waiting (model L.Arbiter) (model R.Arbiter) self.old) s }
-        ensures state { AfterPairPost (model L.Arbiter) (model R.Arbiter) self.old s self.new result }
+        ensures answer { result ≡ post_answer (pair_width L.model R.model self.old) (pair_waiting L.model R.model self.old) s }
+        ensures state { AfterPairPost L.model R.model self.old s self.new result }
     {
         let n = self.first.width();
         if s < n {
@@ -87,9 +70,9 @@ impl<L: Arbiter, R: Arbiter> Pair<L, R> {
         }
     }
 
-    // A pick from the first side, or from the second.
+    // A pick from the first side, or from the second. A yes or no, and no Side: the layers' rules answer so, in code and definitions.
     pub(crate) fn draw(&mut self, first: bool) -> Option<usize>
-        ensures { AfterDraw (model L.Arbiter) (model R.Arbiter) first self.old self.new result }
+        ensures { AfterDraw L.model R.model first self.old self.new result }
     {
         if first {
             let o = self.first.pick()?;

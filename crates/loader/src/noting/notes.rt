@@ -24,21 +24,9 @@ impl<'a> Loaded<'a> {
         ensures { MatchResult result (λ _. Notes self.old (row_of line.entry) self.new) (λ e. (e ≡ Memory) × Grows (row_of line.entry)) }
     {
         match line {
-            Line::Head {
-                make,
-                places: _,
-                banks: _,
-                latency: _,
-                period: _,
-            } => self.make = Some(make),
-            Line::Task {
-                place: _,
-                cycles: _,
-                earliest: _,
-                name,
-            } => self.names.push(name)?,
-            Line::Demand { bank: _, count: _ } => {}
-            Line::Dependency { row: _ } => {}
+            Line::Head { make, .. } => self.make = Some(make),
+            Line::Task { name, .. } => self.names.push(name)?,
+            Line::Demand { .. } | Line::Dependency { .. } => {}
         }
         Ok(())
     }

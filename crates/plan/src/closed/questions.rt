@@ -2,10 +2,9 @@
 ghost use Rattle.std.specs.Prelude.{◌≡◌, ◌<◌, ◌≤◌, true, map, length, Ok};
 ghost use Rattle.plan.specs.Plans.{TaskTold, closed, demand_told, previous_told, waits_told};
 ghost use Rattle.plan.specs.Rows.{row as row_in, row_of};
-ghost use Rattle.plan.specs.Waits.{latest_at, waits_for};
+ghost use Rattle.plan.specs.Waits.{LastAt, latest_at, waits_for};
 
 use crate::closed::ClosedPlan;
-use crate::reads::{banks_of, has};
 use crate::rows::{Head, Refusal, Task};
 
 impl ClosedPlan {
@@ -25,7 +24,7 @@ impl ClosedPlan {
     pub fn task(&self, row: usize) -> Result<&Task, Refusal>
         ensures { TaskTold (closed self.now) row result }
     {
-        if self.count() <= row {
+        if self.len() <= row {
             return Err(Refusal::Unknown);
         }
         Ok(self.at(row))
@@ -36,7 +35,7 @@ impl ClosedPlan {
         ensures { result ≡ demand_told (closed self.now) row bank }
     {
         let task = self.task(row)?;
-        if banks_of(self.head) <= bank {
+        if self.extent().banks <= bank {
             return Err(Refusal::Unknown);
         }
         Ok(task.demands[bank])
@@ -55,7 +54,7 @@ impl ClosedPlan {
         ensures answer { result ≡ waits_told (closed self.now) row other }
         ensures earlier { result ≡ Ok true → other < row }
     {
-        if self.count() <= row || self.count() <= other {
+        if self.len() <= row || self.len() <= other {
             return Err(Refusal::Unknown);
         }
         Ok(self.waits_for(row, other))
@@ -68,25 +67,13 @@ impl ClosedPlan {
         &self.tasks[row]
     }
 
-    fn count(&self) -> usize
-        ensures { result ≡ length (closed self.now).rows }
-    {
-        self.tasks.len()
-    }
-
     fn waits_for(&self, row: usize, other: usize) -> bool
         requires { row < length (closed self.now).rows }
         ensures answer { result ≡ waits_for (closed self.now).rows row other }
         ensures earlier { result ≡ true → other < row }
     {
         let task = self.at(row);
-        if has(task.after.as_slice(), other) {
-            return true;
-        }
-        match self.latest_at(task.place, row) {
-            Some(k) => k == other,
-            None => false,
-        }
+        task.after.contains(&other) || self.latest_at(task.place, row) == Some(other)
     }
 
     // The latest row below this one at a place.
@@ -94,11 +81,13 @@ impl ClosedPlan {
         requires { row ≤ length (closed self.now).rows }
         ensures { result ≡ latest_at (closed self.now).rows place row }
     {
-        for k in (0..row).rev() {
-            if self.at(k).place == place {
-                return Some(k);
-            }
-        }
-        None
+        last_at(&self.tasks[..row], place)
     }
+}
+
+// The last of these tasks at a place.
+fn last_at(tasks: &[Task], place: usize) -> Option<usize>
+    ensures { LastAt tasks.now place result }
+{
+    tasks.iter().rposition(|task| task.place == place)
 }

@@ -40,8 +40,9 @@ impl OpenPlan {
         requires { demand_refusal (opened self.old) bank count ≡ None }
         ensures { opened self.new ≡ with_demand (opened self.old) bank count }
     {
-        let newest = self.tasks.len() - 1;
-        self.tasks[newest].demands[bank] = count;
+        if let Some(newest) = self.tasks.last_mut() {
+            newest.demands[bank] = count;
+        }
     }
 
     pub(crate) fn add_after(&mut self, k: usize) -> Result<(), Refusal>
@@ -49,8 +50,9 @@ impl OpenPlan {
         ensures tried { Tried result (opened self.old) (opened self.new) (with_after (opened self.old) k) }
         ensures memory { result ≡ Err Memory → NamesFull self.old }
     {
-        let newest = self.tasks.len() - 1;
-        self.tasks[newest].after.push(k)?;
+        if let Some(newest) = self.tasks.last_mut() {
+            newest.after.push(k)?;
+        }
         Ok(())
     }
 }

@@ -1,11 +1,10 @@
 // The questions that an open plan puts before it takes a row.
-ghost use Rattle.std.specs.Prelude.{◌≡◌, ◌<◌, length, MatchOption};
+ghost use Rattle.std.specs.Prelude.{◌≡◌, ◌<◌, ◌≤◌, length, MatchOption};
 ghost use Rattle.plan.specs.Plans.{opened};
 ghost use Rattle.plan.specs.Rows.{row_of};
-ghost use Rattle.plan.specs.Rules.{after_refusal, demand_refusal, head_refusal, judged, legal_head, named, newest as newest_of, task_refusal};
+ghost use Rattle.plan.specs.Rules.{after_refusal, banks_of, demand_refusal, head_refusal, judged, legal_head, named, newest as newest_of, task_refusal};
 
 use crate::open::OpenPlan;
-use crate::reads::{banks_of, has};
 use crate::rows::{Head, Refusal, Task};
 
 impl OpenPlan {
@@ -23,15 +22,19 @@ impl OpenPlan {
         self.tasks.last()
     }
 
+    // A plan without a head has no banks.
+    fn banks(&self) -> usize
+        ensures value { result ≡ banks_of (opened self.now).head }
+        ensures few { result ≤ 16 }
+    {
+        self.head.map_or(0, |head| head.banks)
+    }
+
     // How many rows its tasks name in all.
     fn links(&self) -> usize
         ensures { result ≡ named (opened self.now).rows }
     {
-        let mut links = 0;
-        for task in self.tasks.as_slice() {
-            links += task.after.len();
-        }
-        links
+        self.tasks.iter().map(|task| task.after.len()).sum()
     }
 
     pub(crate) fn ask_head(&self, head: Head) -> Result<(), Refusal>
@@ -55,7 +58,7 @@ impl OpenPlan {
         if head.places <= place {
             return Err(Refusal::Unknown);
         }
-        if cycles < 1 || 1_000_000 < cycles || 1_000_000_000 < earliest {
+        if !(1..=1_000_000).contains(&cycles) || 1_000_000_000 < earliest {
             return Err(Refusal::Range);
         }
         if 256 <= self.rows() {
@@ -70,10 +73,10 @@ impl OpenPlan {
         let Some(newest) = self.newest() else {
             return Err(Refusal::Order);
         };
-        if banks_of(self.head) <= bank {
+        if self.banks() <= bank {
             return Err(Refusal::Unknown);
         }
-        if count < 1 || 65_535 < count {
+        if !(1..=65_535).contains(&count) {
             return Err(Refusal::Range);
         }
         if newest.demands[bank] != 0 {
@@ -91,7 +94,7 @@ impl OpenPlan {
         if self.rows() - 1 <= k {
             return Err(Refusal::Unknown);
         }
-        if has(newest.after.as_slice(), k) {
+        if newest.after.contains(&k) {
             return Err(Refusal::Twice);
         }
         if 2_048 <= self.links() {
@@ -105,12 +108,8 @@ impl OpenPlan {
 fn is_legal(head: Head) -> bool
     ensures { result ≡ legal_head head }
 {
-    1 <= head.places
-        && head.places <= 32
-        && 1 <= head.banks
-        && head.banks <= 16
-        && 1 <= head.latency
-        && head.latency <= 64
-        && 1 <= head.period
-        && head.period <= 1_000_000_000
+    (1..=32).contains(&head.places)
+        && (1..=16).contains(&head.banks)
+        && (1..=64).contains(&head.latency)
+        && (1..=1_000_000_000).contains(&head.period)
 }

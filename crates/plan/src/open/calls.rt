@@ -30,7 +30,7 @@ impl OpenPlan {
         Ok(())
     }
 
-    // One task more; the answer is its row.
+    // One task more; the answer is its row. Three numbers and no struct: a caller has them apart, and a struct would be made for this call alone.
     pub fn task(&mut self, place: usize, cycles: u64, earliest: u64) -> Result<usize, Refusal>
         ensures call { Attempted (task_refusal (opened self.old) place cycles earliest) result (length (opened self.old).rows) (opened self.old) (opened self.new) (with_task (opened self.old) place cycles earliest) }
         ensures memory { result ≡ Err Memory → TasksFull self.old }

@@ -6,8 +6,8 @@ use crate::state::Run;
 use arbiter::Arbiter;
 use cluster::{Event, Stage};
 
-impl<'r, A: Arbiter> Run<'r, A> {
-    // There is no place from 32 on,
+impl<A: Arbiter> Run<'_, A> {
+    // There is no place from 32 on. (A write through `get_mut` tells the proof nothing of the places.)
     pub(crate) fn happen(&mut self, place: usize, event: Event)
         ensures { Goes (λ s. happen s place event) self.old self.new }
     {
@@ -16,7 +16,7 @@ impl<'r, A: Arbiter> Run<'r, A> {
         }
     }
 
-    // and no row from 256 on.
+    // There is no row from 256 on.
     pub(crate) fn mark(&mut self, row: usize, stage: Stage)
         ensures { Goes (λ s. with_stage s row stage) self.old self.new }
     {

@@ -5,26 +5,24 @@ ghost use Rattle.run.specs.Views.{Goes, planned};
 
 use crate::state::Run;
 use arbiter::Arbiter;
-use cluster::{Event, Place, Stage};
+use cluster::{Event, Job, Place, Service, Stage};
 
-impl<'r, A: Arbiter> Run<'r, A> {
+impl<A: Arbiter> Run<'_, A> {
     // The service of bank b ends if it has no cycle left, and its place works.
     fn end_service(&mut self, b: usize)
         requires { b < 16 }
         ensures { Goes (end_service b) self.old self.new }
     {
-        if let Some(service) = self.services[b] {
-            if service.left == 0 {
-                self.services[b] = None;
-                self.happen(service.place, Event::ServiceEnded);
-            }
+        if let Some(Service { place, left: 0 }) = self.services[b] {
+            self.services[b] = None;
+            self.happen(place, Event::ServiceEnded);
         }
     }
 
     pub(crate) fn end_services(&mut self)
         ensures { Goes (all_ended (planned self.old)) self.old self.new }
     {
-        for b in 0..self.head().banks {
+        for b in 0..self.plan.extent().banks {
             self.end_service(b);
         }
     }
@@ -34,18 +32,18 @@ impl<'r, A: Arbiter> Run<'r, A> {
         requires { place < 32 }
         ensures { Goes (retire place) self.old self.new }
     {
-        if let Place::Working(job) = self.places[place] {
-            if job.cycles == 0 {
-                self.places[place] = Place::Idle;
-                self.mark(job.task, Stage::Done);
-            }
+        if let Place::Working(job) = self.places[place]
+            && job.cycles == 0
+        {
+            self.places[place] = Place::Idle;
+            self.mark(job.task, Stage::Done);
         }
     }
 
     pub(crate) fn retire_all(&mut self)
         ensures { Goes (all_retired (planned self.old)) self.old self.new }
     {
-        for place in 0..self.head().places {
+        for place in 0..self.plan.extent().places {
             self.retire(place);
         }
     }

@@ -6,7 +6,7 @@ use crate::state::Run;
 use arbiter::Arbiter;
 use cluster::{Breach, CallRefusal, Place, Stage};
 
-impl<'r, A: Arbiter> Run<'r, A> {
+impl<A: Arbiter> Run<'_, A> {
     pub fn time(&self) -> u64
         ensures { result ≡ (state self.now).time }
     {
@@ -17,19 +17,19 @@ impl<'r, A: Arbiter> Run<'r, A> {
     pub fn task(&self, row: usize) -> Result<Stage, CallRefusal>
         ensures { result ≡ task_told self.now row }
     {
-        if row >= self.rows() {
+        if row >= self.plan.len() {
             return Err(CallRefusal::Unknown);
         }
-        Ok(self.stage_at(row))
+        Ok(self.stages[row])
     }
 
     pub fn place(&self, place: usize) -> Result<Place, CallRefusal>
         ensures { result ≡ place_told self.now place }
     {
-        if place >= self.head().places {
+        if place >= self.plan.extent().places {
             return Err(CallRefusal::Unknown);
         }
-        Ok(self.place_at(place))
+        Ok(self.places[place])
     }
 
     pub fn breach(&self) -> Option<Breach>

@@ -1,67 +1,66 @@
-// Releases, by rows.
-ghost use Rattle.std.specs.Prelude.{◌≡◌, ◌<◌, not, ◌||◌, length};
+// Releases, by rows. They go by their numbers, with the premise `HasRow`, as those of the check do.
+ghost use Rattle.std.specs.Prelude.{◌≡◌, ◌<◌, length};
+ghost use Rattle.plan.specs.Rows.{row as row_in, row_of};
 ghost use Rattle.plan.specs.Waits.{waits_for};
-ghost use Rattle.cluster.specs.Cycles.{all_done, is_done, ready, release, releases, start};
-ghost use Rattle.cluster.specs.States.{stage_of};
-ghost use Rattle.run.specs.Views.{Goes, planned, state, table};
+ghost use Rattle.cluster.specs.Cycles.{all_done, ready, release, releases, start};
+ghost use Rattle.run.specs.Views.{Goes, HasRow, planned, state, table};
 
 use crate::state::Run;
 use arbiter::Arbiter;
-use cluster::{Breach, Place, Stage};
+use cluster::{Breach, Job, Place, Stage};
+use plan::rows::Task;
 
-impl<'r, A: Arbiter> Run<'r, A> {
-    // Does one row wait for another?
-    fn waits_for(&self, row: usize, other: usize) -> bool
-        requires { (row < length (planned self.now).rows) × (other < length (planned self.now).rows) }
-        ensures { result ≡ waits_for (planned self.now).rows row other }
+impl<A: Arbiter> Run<'_, A> {
+    fn task_at(&self, row: usize) -> &Task
+        requires { HasRow self.now row }
+        ensures task { row_of result.now ≡ row_in (planned self.now).rows row }
+        ensures placed { result.now.place < 32 }
     {
-        match self.plan.waits(row, other) {
-            Ok(waits) => waits,
-            Err(_) => unreachable(),
-        }
+        &self.plan.tasks()[row]
     }
 
-    // Is another row done, if a row waits for it?
-    fn allows(&self, row: usize, other: usize) -> bool
-        requires { (row < length (planned self.now).rows) × (other < length (planned self.now).rows) }
-        ensures { result ≡ (not (waits_for (planned self.now).rows row other) || is_done (stage_of (state self.now) other)) }
+    // Does one row wait for another?
+    fn waits_for(&self, row: usize, other: usize) -> bool
+        requires row { HasRow self.now row }
+        requires other { HasRow self.now other }
+        ensures { result ≡ waits_for (planned self.now).rows row other }
     {
-        !self.waits_for(row, other) || self.stage_at(other).is_done()
+        self.plan.waits(row, other).unwrap()
     }
 
     // Are all done that a row waits for?
     fn all_done(&self, row: usize) -> bool
-        requires { row < length (planned self.now).rows }
+        requires { HasRow self.now row }
         ensures { result ≡ all_done (planned self.now) (state self.now) row (length (planned self.now).rows) }
     {
-        for k in 0..self.rows() {
-            if !self.allows(row, k) {
-                return false;
-            }
-        }
-        true
+        (0..self.plan.len()).all(|k| !self.waits_for(row, k) || self.stages[k].is_done())
     }
 
     fn is_ready(&self, row: usize) -> bool
-        requires { row < length (planned self.now).rows }
+        requires { HasRow self.now row }
         ensures { result ≡ ready (planned self.now) (state self.now) row }
     {
-        self.place_at(self.home(row)).is_idle() && self.all_done(row)
+        self.places[self.task_at(row).place].is_idle() && self.all_done(row)
     }
 
     // The task is at work, with its full cycles and accesses, and its place works.
     fn start(&mut self, row: usize)
-        requires { row < length (planned self.old).rows }
+        requires { HasRow self.old row }
         ensures { Goes (start (planned self.old) (table self.old) row) self.old self.new }
     {
-        let place = self.home(row);
-        self.places[place] = Place::Working(self.job(row));
+        let task = self.task_at(row);
+        let job = Job {
+            task: row,
+            cycles: task.cycles,
+            accesses: task.demands,
+        };
+        self.places[task.place] = Place::Working(job);
         self.mark(row, Stage::AtWork);
     }
 
     // A task whose date is the time starts if it is ready, else there is a breach. After a breach there are no releases.
     fn release(&mut self, row: usize)
-        requires { row < length (planned self.old).rows }
+        requires { HasRow self.old row }
         ensures { Goes (release (planned self.old) (table self.old) row) self.old self.new }
     {
         if self.breach.is_some() || u64::from(self.dates[row].release) != self.time {
@@ -77,7 +76,7 @@ impl<'r, A: Arbiter> Run<'r, A> {
     pub(crate) fn release_all(&mut self)
         ensures { Goes (releases (planned self.old) (table self.old) (length (planned self.old).rows)) self.old self.new }
     {
-        for row in 0..self.rows() {
+        for row in 0..self.plan.len() {
             self.release(row);
         }
     }

@@ -1,7 +1,6 @@
 // Setting a run up.
 ghost use Rattle.std.specs.Prelude.{None, Ok};
 ghost use Rattle.plan.specs.Plans.{closed};
-ghost use Rattle.arbiter.specs.Given.{model};
 ghost use Rattle.cluster.specs.Calls.{set_up_refusal};
 ghost use Rattle.setup.specs.Questions.{Rests};
 ghost use Rattle.run.specs.Views.{SetsUp};
@@ -11,7 +10,6 @@ use arbiter::Arbiter;
 use cluster::{Place, Stage};
 use date_check::Dates;
 use plan::closed::ClosedPlan;
-use setup::refusal_of;
 
 impl<'r, A: Arbiter> Run<'r, A> {
     // At first all places are idle, all tasks ahead, the time is 0 and no bank serves; then follow the releases of time 0.
@@ -39,11 +37,11 @@ impl<'r, A: Arbiter> Run<'r, A> {
         dates: &'r [Dates],
         arbiters: Vec<A>,
     ) -> Result<Run<'r, A>, Refused<A>>
-        ensures { SetsUp (set_up_refusal (model A.Arbiter) (closed plan.now) dates.now arbiters.items) plan.now dates.now arbiters.items result }
+        ensures { SetsUp (set_up_refusal A.model (closed plan.now) dates.now arbiters.items) plan.now dates.now arbiters.items result }
     {
-        match refusal_of(plan, dates, arbiters.as_slice()) {
-            Some(refusal) => Err(Refused { refusal, arbiters }),
-            None => Ok(Run::begin(plan, dates, arbiters)),
+        match setup::ask(plan, dates, arbiters.as_slice()) {
+            Ok(()) => Ok(Run::begin(plan, dates, arbiters)),
+            Err(refusal) => Err(Refused { refusal, arbiters }),
         }
     }
 }

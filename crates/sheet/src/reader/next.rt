@@ -4,13 +4,14 @@ ghost use Rattle.sheet.specs.Laws.{Exact};
 ghost use Rattle.sheet.specs.Place.{text, left, upcoming, remaining, Moved};
 ghost use Rattle.sheet.specs.Reading.{continued, next_view};
 
-use crate::cutting::line_at;
+use crate::cutting::first_line;
 use crate::faults::Fault;
 use crate::lines::Line;
+use crate::parsing::parse;
 use crate::reader::Sheet;
 
 impl<'a> Sheet<'a> {
-    // The next line; none at the end of the sheet. A fault leaves the sheet as it was.
+    // The next line; none at the end of the sheet. A fault leaves the sheet as it was: an Iterator would hand it out for ever.
     pub fn next(&mut self) -> Result<Option<Line<'a>>, Fault>
         ensures text { text self.new ≡ text self.old }
         ensures answer { next_view result ≡ upcoming self.old }
@@ -18,11 +19,20 @@ impl<'a> Sheet<'a> {
         ensures moved { Moved self.old result self.new }
         ensures reading { remaining self.old ≡ continued (next_view result) (remaining self.new) }
     {
-        let Some((line, end)) = line_at(self.bytes, self.at, self.lines)? else {
+        let Some(line) = first_line(&self.bytes[self.at..]) else {
             return Ok(None);
         };
-        self.at = end;
-        self.lines += 1;
-        Ok(Some(line))
+        match parse(line) {
+            Ok(row) => {
+                self.at += line.len();
+                self.lines += 1;
+                Ok(Some(row))
+            }
+            Err(flaw) => Err(Fault {
+                cause: flaw.cause,
+                line: self.lines + 1,
+                column: flaw.column,
+            }),
+        }
     }
 }

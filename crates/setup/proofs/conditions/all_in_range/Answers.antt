@@ -1,15 +1,10 @@
-use Rattle.std.proofs.Common.{refl}
+use Rattle.std.proofs.Common.{length, refl, rules}
 use Rattle.date_check.specs.Sound.{dated}
+use Rattle.date_check.proofs.Every.{below_is}
 use Rattle.cluster.specs.Calls.{all_in_range, runs_in_range}
-use Rattle.setup.proofs.Every.{every_more, every_not}
 use Rattle.setup.proofs.conditions.all_in_range.Goals as goal
 
-pub returns-then-not-in_range : goal.returns-then-not-in_range
-returns-then-not-in_range c =
+pub returns : goal.returns
+returns c =
     let dates = c.args.dates.now in
-    every_not (λ i. runs_in_range (dated dates i)) (all_in_range dates) (λ n. refl) c.loop-row.row c.args.rows c.loop-row-test.true c.if-not-in_range.ensures
-
-pub loop-row-preserved : goal.loop-row-preserved
-loop-row-preserved c =
-    let dates = c.args.dates.now in
-    every_more (λ i. runs_in_range (dated dates i)) (all_in_range dates) (λ n. refl) c.loop-row.row c.loop-row.invariant c.if-not-in_range.ensures
+    below_is (all_in_range dates) (λ i. runs_in_range (dated dates i)) refl (λ _. refl) (length dates) _ (search rules) (search rules)

@@ -1,19 +1,10 @@
-use Rattle.std.proofs.Common.{sym, ◌∙◌, arith}
-use Rattle.std.proofs.lemmas.List.{at_drop_all}
-use Rattle.sheet.specs.Fields.{unpadded}
-use Rattle.sheet.proofs.Texts.{unpadded_space, unpadded_here}
+use Rattle.std.proofs.Common.{ap, arith, drop, length-drop, sym, ◌∙◌}
+use Rattle.std.proofs.lemmas.List.{take_all}
+use Rattle.sheet.proofs.Texts.{unpadded-drop}
 use Rattle.sheet.proofs.fields.unpadded.Goals as goal
 
-pub returns-then-b-ne32 : goal.returns-then-b-ne32
-returns-then-b-ne32 c =
-    record {
-      text = c.split_at.ensures.back ∙ (sym (unpadded_here c.args.field.now c.loop-i.i c.loop-i-test.true c.if-b-ne32.true) ∙ c.loop-i.invariant);
-      len = omega (arith, c.split_at.ensures.back_len);
-    }
-
-pub loop-i-preserved : goal.loop-i-preserved
-loop-i-preserved c = sym (unpadded_space c.args.field.now c.loop-i.i c.loop-i-test.true c.if-b-ne32.false) ∙ c.loop-i.invariant
-
-pub returns : goal.returns
-returns c =
-    record { text = sym (at_drop_all unpadded c.args.field.now c.loop-i.i c.loop-i-test.false) ∙ c.loop-i.invariant; len = omega arith }
+pub returns-clause-text : goal.returns-clause-text
+returns-clause-text c =
+    let field = c.args.field.now in
+    let n = c.leading_spaces.result in
+    take_all _ (drop n field) (omega (arith, length-drop n field)) ∙ (ap (λ k. drop k field) c.leading_spaces.ensures.value ∙ sym (unpadded-drop field))

@@ -1,5 +1,5 @@
-use Rattle.std.proofs.Common.{◌≡◌, ℕ, ◌<◌, ◌≤◌, true, [], map, get_or, set}
-use Rattle.plan.specs.Rows.{row_of}
+use Rattle.std.proofs.Common.{◌≡◌, ℕ, ◌<◌, ◌≤◌, true, [], get_or, set}
+use Rattle.plan.specs.Plans.{closed}
 use Rattle.date_check.specs.Sound.{loads}
 use Rattle.analysis.specs.Workings.{marked}
 use Rattle.analysis.proofs.tables.Meetings.add.Given as goal
@@ -8,5 +8,5 @@ use Rattle.analysis.proofs.tables.Meetings.add.Given as goal
 abbrev pub invariant-loop-bank : goal.invariant-loop-bank
 invariant-loop-bank l =
     (l.self.met ≡ l.initial.self.met)
-    × ((b : ℕ) → b < l.bank → get_or l.self.loads b [] ≡ loads (map row_of l.tasks) (marked (set l.self.met l.k true)) b)
-    × ((b : ℕ) → l.bank ≤ b → b < 16 → get_or l.self.loads b [] ≡ loads (map row_of l.tasks) (marked l.self.met) b)
+    × ((b : ℕ) → b < l.bank → get_or l.self.loads b [] ≡ loads (closed l.plan).rows (marked (set l.self.met l.k true)) b)
+    × ((b : ℕ) → l.bank ≤ b → b < 16 → get_or l.self.loads b [] ≡ loads (closed l.plan).rows (marked l.self.met) b)

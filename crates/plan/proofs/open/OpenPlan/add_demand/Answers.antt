@@ -19,23 +19,11 @@ module _ (s : OpenPlan) (bank count : ℕ) (pass : demand_refusal (opened s) ban
   changed : (n : ℕ) (t : Task) → n ≡ vec_len s.tasks → t ≡ get_or (vec_items s.tasks) (n - 1) t → plan_of s.head (set (vec_items s.tasks) (n - 1) (record { place = t.place; cycles = t.cycles; earliest = t.earliest; demands = set t.demands bank count; after = t.after })) ≡ with_demand (opened s) bank count
   changed n t all read = newest_changed s.head (vec_items s.tasks) n t _ (all ∙ s.tasks.ok.0) (omega (arith, some)) read (λ r. with_accesses r bank count) refl
 
-pub overflow_sub-newest : goal.overflow_sub-newest
-overflow_sub-newest c = omega (arith, some c.args.self.now c.args.bank c.args.count c.requires)
-
-pub index_mut-requires : goal.index_mut-requires
-index_mut-requires c = omega (arith, some c.args.self.now c.args.bank c.args.count c.requires)
-
-pub offset_bounds-index_mut-bank : goal.offset_bounds-index_mut-bank
-offset_bounds-index_mut-bank c = omega (arith, inside c.args.self.now c.args.bank c.args.count c.requires)
-
-pub bounds-index_mut-bank : goal.bounds-index_mut-bank
-bounds-index_mut-bank c = inside c.args.self.now c.args.bank c.args.count c.requires
-
 pub invariant_of-self : goal.invariant_of-self
 invariant_of-self c =
     let s = c.args.self.now in
-    let e = changed s c.args.bank c.args.count c.requires c.len-newest.result c.index_mut.result.now c.len-newest.ensures c.index_mut.ensures.value in
+    let e = changed s c.args.bank c.args.count c.requires (vec_len s.tasks) c.in-Some.newest.now refl c.in-Some.ensures.value in
     record { kept = ∣ subst Kept (sym e) (demand_kept (opened s) c.args.bank c.args.count (known (opened s) s.kept) c.requires) ∣₁ }
 
-pub returns : goal.returns
-returns c = changed c.args.self.now c.args.bank c.args.count c.requires c.len-newest.result c.index_mut.result.now c.len-newest.ensures c.index_mut.ensures.value
+pub returns-in-Some : goal.returns-in-Some
+returns-in-Some c = changed c.args.self.now c.args.bank c.args.count c.requires (vec_len c.args.self.now.tasks) c.in-Some.newest.now refl c.in-Some.ensures.value

@@ -1,4 +1,4 @@
-use Rattle.std.proofs.Common.{◌≡◌, ℕ, true, List, [], replicate, is_ok, vec_items, sym, ap, subst, arith}
+use Rattle.std.proofs.Common.{◌≡◌, ℕ, List, [], replicate, is_ok, vec_items, sym, ap, subst}
 use Rattle.plan.specs.Plans.{opened}
 use Rattle.plan.specs.Rows.{new_row}
 use Rattle.plan.specs.Rules.{Kept}
@@ -16,11 +16,3 @@ invariant_of-self c =
     let e = task_tried s.head (vec_items s.tasks) (vec_items c.push.new.self) _ b c.args.place c.args.cycles c.args.earliest (fresh c.args.place c.args.cycles c.args.earliest _ c.new.ensures.items) c.push.ensures.items in
     let old = known (opened s) s.kept in
     record { kept = ∣ subst Kept (sym e) (kept_either b (opened s) _ old (task_kept (opened s) c.args.place c.args.cycles c.args.earliest old c.requires)) ∣₁ }
-
-pub returns : goal.returns
-returns c =
-    let s = c.args.self.now in
-    record {
-      tried = task_tried s.head (vec_items s.tasks) (vec_items c.push.new.self) _ true c.args.place c.args.cycles c.args.earliest (fresh c.args.place c.args.cycles c.args.earliest _ c.new.ensures.items) c.in_ok-push.ensures.items;
-      memory = λ h. let z : ◌≡◌ {A = ℕ} 0 1 = cc in absurd (omega arith);
-    }

@@ -1,17 +1,10 @@
-use Rattle.std.proofs.Common.{ap, ◌∙◌, arith}
+use Rattle.std.proofs.Common.{◌≡◌, ◌+◌, None, set, sym, subst, arith}
 use Rattle.cluster.specs.Cycles.{service_used}
-use Rattle.cluster.specs.States.{with_services}
-use Rattle.run.specs.Views.{state}
-use Rattle.run.proofs.Steps.{mapped_all, services_more}
+use Rattle.run.proofs.Steps.{mapped, mapped_more}
 use Rattle.run.proofs.state.Run.use_services.Goals as goal
 
-pub loop-bank-preserved : goal.loop-bank-preserved
-loop-bank-preserved g c = services_more service_used c.loop-bank.bank c.args.self.now c.loop-bank.self c.use_service.new.self (omega (arith, c.args.self.now.served)) c.loop-bank.invariant c.use_service.ensures
-
-pub returns : goal.returns
-returns g c =
-    let first = c.args.self.now in
-    record {
-      leaves = c.loop-bank.invariant.leaves ∙ ap (with_services (state first)) (mapped_all service_used c.loop-bank.bank first.services (omega (arith, first.served)));
-      stays = c.loop-bank.invariant.stays;
-    }
+pub loop-service-preserved : goal.loop-service-preserved
+loop-service-preserved g c =
+    let run = c.args.self.now in
+    let k = c.loop-service.service-index in
+    subst (λ x. set c.loop-service.service-items k x ≡ mapped service_used (k + 1) run.services) (sym c.one_used.ensures) (mapped_more service_used run.services c.loop-service.service-items k None (omega (arith, run.served, c.loop-service-test.true)) c.loop-service.invariant)

@@ -1,5 +1,0 @@
--- Each call has the tenth part of the number.
-use Rattle.listing.proofs.columns.+put_decimal.Given as goal
-
-abbrev pub decreases-put_decimal : goal.decreases-put_decimal
-decreases-put_decimal l = l.n
