@@ -44,7 +44,7 @@ impl Ring {
         ensures { FirstWaiting self.now.width self.now.last (ring_waiting self.now) result }
     {
         let start = self.last.map_or(0, |l| l + 1);
-        let (before, from) = self.waiting.split_at(start);
+        let (before, from) = self.waiting[..self.width].split_at(start);
         match first_true(from) {
             Some(i) => Some(start + i),
             None => first_true(before),

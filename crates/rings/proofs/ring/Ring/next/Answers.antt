@@ -1,4 +1,4 @@
-use Rattle.std.proofs.Common.{◌≡◌, ℕ, ◌+◌, ◌-◌, ◌<◌, Bool, false, List, length, get_or, take, drop, Some, None, Option, inl, inr, arith, rules}
+use Rattle.std.proofs.Common.{◌≡◌, ℕ, ◌+◌, ◌-◌, ◌<◌, Bool, false, List, length, get_or, take, drop, sym, Some, None, Option, inl, inr, ◌∙◌, arith, rules}
 use Rattle.std.proofs.lemmas.Bool.{cases_lt}
 use Rattle.std.proofs.lemmas.Grind.{common_steps}
 use Rattle.rings.specs.Kept.{Quiet}
@@ -24,8 +24,25 @@ wrapped n l ws k front back (Some s) e x y none h = record {
   first = λ o w. elim (cases_lt o k) [ inl i ↦ omega (arith, rank_cases n l s, rank_cases n l o, h.first o (grind (arith, common_steps))) | inr i ↦ grind (arith, common_steps, none (o - k)) ];
 }
 
+-- From n on nobody waits, so that only the first n flags need to be looked at.
+trimmed : (n : ℕ) (ws : List Bool) → Quiet ws n → (o : ℕ) → get_or (take n ws) o false ≡ get_or ws o false
+trimmed n ws q o = elim (cases_lt o n) [ inl i ↦ grind (arith, common_steps) | inr i ↦ grind (arith, common_steps, q o) ]
+
+widened : (n : ℕ) (l : Option ℕ) (ws : List Bool) (r : Option ℕ) → Quiet ws n → FirstWaiting n l (λ o. get_or (take n ws) o false) r → FirstWaiting n l (λ o. get_or ws o false) r
+widened n l ws None q h = λ o. sym (trimmed n ws q o) ∙ h o
+widened n l ws (Some s) q h = record { waited = sym (trimmed n ws q s) ∙ h.waited; first = λ o w. h.first o (trimmed n ws q o ∙ w) }
+
+quiet : (n : ℕ) (ws : List Bool) → Quiet ws n → Quiet (take n ws) n
+quiet n ws q o h = trimmed n ws q o ∙ q o h
+
 pub returns-in-Some : goal.returns-in-Some
-returns-in-Some c = straight _ _ _ c.map_or-start.result _ c.in-Some.i c.args.self.now.quiet (search rules) c.split_at.ensures.back c.in-Some.ensures
+returns-in-Some c =
+    let a = c.args.self.now in
+    widened a.width a.last a.waiting (Some (c.map_or-start.result + c.in-Some.i)) a.quiet
+    (straight a.width a.last (take a.width a.waiting) c.map_or-start.result _ c.in-Some.i (quiet a.width a.waiting a.quiet) (search rules) c.split_at.ensures.back c.in-Some.ensures)
 
 pub returns-in-None : goal.returns-in-None
-returns-in-None c = wrapped _ _ _ c.map_or-start.result _ _ c.first_true-in-None.result (search rules) c.split_at.ensures.front c.split_at.ensures.back c.in-None.ensures c.first_true-in-None.ensures
+returns-in-None c =
+    let a = c.args.self.now in
+    widened a.width a.last a.waiting c.first_true-in-None.result a.quiet
+    (wrapped a.width a.last (take a.width a.waiting) c.map_or-start.result _ _ c.first_true-in-None.result (search rules) c.split_at.ensures.front c.split_at.ensures.back c.in-None.ensures c.first_true-in-None.ensures)
