@@ -1,7 +1,8 @@
 // What stands in a field of a line.
-ghost use Rattle.std.specs.Prelude.{◌≡◌, ◌==◌, ◌≤◌, length};
+ghost use Rattle.std.specs.Prelude.{◌≡◌, ◌==◌, ◌≤◌, true, length};
 ghost use Rattle.std.specs.Int.{is_in_range};
 ghost use Rattle.std.specs.List.{list_all, prefix_len};
+ghost use Rattle.std.specs.Str.Parse.{digits_value};
 ghost use Rattle.sheet.specs.Fields.{unpadded, numeral, number, visible, named};
 
 fn leading_spaces(field: &[u8]) -> usize
@@ -35,7 +36,21 @@ fn is_numeral(digits: &[u8]) -> bool
     }
 }
 
-// The number in a field. `parse` alone would take a sign and leading zeros.
+// The number that digits write. (`parse` takes a text, and would look at each byte twice more.)
+fn value_of(digits: &[u8]) -> u64
+    requires short { length digits.now ≤ 10 }
+    requires digits { list_all (is_in_range 48 57) digits.now ≡ true }
+    ensures { result ≡ digits_value 10 digits.now }
+{
+    // A loop: with `fold` two goals stayed open.
+    let mut total = 0;
+    for d in digits {
+        total = 10 * total + u64::from(*d - b'0');
+    }
+    total
+}
+
+// The number in a field.
 pub(crate) fn read_number(field: &[u8]) -> Option<u64>
     requires { length field.now ≤ 10 }
     ensures { result ≡ number field.now }
@@ -44,7 +59,7 @@ pub(crate) fn read_number(field: &[u8]) -> Option<u64>
     if !is_numeral(digits) {
         return None;
     }
-    str::from_utf8(digits).ok()?.parse().ok()
+    Some(value_of(digits))
 }
 
 fn are_visible(bytes: &[u8]) -> bool
