@@ -9,7 +9,7 @@ use Rattle.listing.specs.Memory.{Measured}
 use Rattle.listing.specs.declared.answer.Answer.TheVariants.{Late, Fault}
 use Rattle.listing.specs.declared.answer.Row.{Row}
 
-few_digits : (n : ℕ) → n < 10 ^ 10 → length (decimal n) ≤ 10
+pub few_digits : (n : ℕ) → n < 10 ^ 10 → length (decimal n) ≤ 10
 few_digits n h = length-decimal-le 10 n (omega arith) h (omega arith)
 
 aligned_row : (row : ℕ) (r : Row) → row < 10 ^ 10 → RowAligned r → length (row_line row r) ≡ 55

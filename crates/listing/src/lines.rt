@@ -19,14 +19,14 @@ pub(crate) fn row_line<'n>(row: usize, r: &Row<'n>) -> [Part<'n>; 8]
     let release = u64::from(r.release);
     let response = u64::from(r.response);
     [
-        Part::Text(0, b"R"),
+        Part::Byte(b'R'),
         Part::Number(NUMBER, row as u64),
         Part::Number(NUMBER, release),
         Part::Number(NUMBER, response),
         Part::Number(NUMBER, release + response),
-        Part::Text(0, b" "),
+        Part::Byte(b' '),
         Part::Text(NAME, r.name),
-        Part::Text(0, b"\n"),
+        Part::Byte(b'\n'),
     ]
 }
 
@@ -34,9 +34,9 @@ pub(crate) fn rounds_line(rounds: u32) -> [Part<'static>; 3]
     ensures { text_of_all result ≡ rounds_line rounds }
 {
     [
-        Part::Text(0, b"G"),
+        Part::Byte(b'G'),
         Part::Number(NUMBER, u64::from(rounds)),
-        Part::Text(0, b"\n"),
+        Part::Byte(b'\n'),
     ]
 }
 
@@ -44,10 +44,10 @@ pub(crate) fn late_line(row: usize, finish: u64) -> [Part<'static>; 4]
     ensures { text_of_all result ≡ late row finish }
 {
     [
-        Part::Text(0, b"L"),
+        Part::Byte(b'L'),
         Part::Number(NUMBER, row as u64),
         Part::Number(FINISH, finish),
-        Part::Text(0, b"\n"),
+        Part::Byte(b'\n'),
     ]
 }
 
@@ -55,10 +55,10 @@ pub(crate) fn fault_line(number: u32, line: usize, column: usize) -> [Part<'stat
     ensures { text_of_all result ≡ fault number line column }
 {
     [
-        Part::Text(0, b"F"),
+        Part::Byte(b'F'),
         Part::Number(NUMBER, u64::from(number)),
         Part::Number(NUMBER, line as u64),
         Part::Number(NUMBER, column as u64),
-        Part::Text(0, b"\n"),
+        Part::Byte(b'\n'),
     ]
 }

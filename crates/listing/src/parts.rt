@@ -1,48 +1,60 @@
-// The parts of a line: texts and numbers, each right-justified in its column.
+// The parts of a line: bytes, and texts and numbers, each of these right-justified in its column.
 // (No Display: a name is bytes and need not be UTF-8, and no clause of `write!` says that it succeeds where the memory suffices.)
-ghost use Rattle.std.specs.Prelude.{◌≡◌, ◌+◌, ◌≤◌, length};
-ghost use Rattle.sheet.specs.Columns.{justified};
+ghost use Rattle.std.specs.Prelude.{◌≡◌, ◌+◌, ◌≤◌, decimal, length};
 ghost use Rattle.listing.specs.Memory.{Measured, AtFront};
 ghost use Rattle.listing.specs.Parts.{text_of, text_of_all};
 
-use itoa::Buffer;
+use itoa::write_digits;
 
-// One part of a line, with the width of its column. What is wider than its column is not cut.
+// One part of a line; a text and a number with the width of its column. What is wider than its column is not cut.
 #[derive(Clone, Copy)]
 pub(crate) enum Part<'t> {
+    Byte(u8),
     Text(usize, &'t [u8]),
     Number(usize, u64),
 }
 
-impl Part<'_> {
-    // The width of the column, and what stands in it.
-    fn column<'a>(&'a self, buffer: &'a mut Buffer) -> (usize, &'a [u8])
-        ensures { justified result.0 result.1.now ≡ text_of self.now }
-    {
-        match self {
-            Part::Text(width, text) => (*width, text),
-            Part::Number(width, n) => (*width, buffer.format(*n).as_bytes()),
-        }
-    }
+// A number below this has at most 10 digits: in a column of that width or more, none need be counted.
+const TEN_DIGITS: u64 = 10_000_000_000;
 
+// How many digits a number has.
+fn digits(n: u64) -> usize
+    ensures count { result ≡ length (decimal n) }
+    ensures few { result ≤ 20 }
+{
+    if n < 10 { 1 } else { digits(n / 10) + 1 }
+}
+
+impl Part<'_> {
     fn len(&self) -> usize
         ensures { result ≡ length (text_of self.now) }
     {
-        let mut buffer = Buffer::new();
-        let (width, text) = self.column(&mut buffer);
-        width.max(text.len())
+        match self {
+            Part::Byte(_) => 1,
+            Part::Text(width, text) => text.len().max(*width),
+            Part::Number(width, n) if *n < TEN_DIGITS && 10 <= *width => *width,
+            Part::Number(width, n) => digits(*n).max(*width),
+        }
     }
 
     fn put(&self, out: &mut [u8]) -> usize
         requires { length (text_of self.now) ≤ length out.old }
         ensures { AtFront (text_of self.now) out.old result out.new }
     {
-        let mut buffer = Buffer::new();
-        let (width, text) = self.column(&mut buffer);
-        let start = width.saturating_sub(text.len());
-        let end = start + text.len();
+        let end = self.len();
+        let start = match self {
+            Part::Byte(byte) => {
+                out[0] = *byte;
+                return 1;
+            }
+            Part::Text(_, text) => {
+                let start = end - text.len();
+                out[start..end].copy_from_slice(text);
+                start
+            }
+            Part::Number(_, n) => write_digits(*n, out, end),
+        };
         out[..start].fill(b' ');
-        out[start..end].copy_from_slice(text);
         end
     }
 }

@@ -4,13 +4,13 @@ use Rattle.std.proofs.lemmas.List.{flat_map_more, take_more}
 use Rattle.std.proofs.lemmas.List.Folds.{length-flat_map-take}
 use Rattle.listing.specs.Parts.{text_of}
 use Rattle.listing.specs.declared.parts.Part.{Part}
-use Rattle.listing.specs.declared.parts.Part.TheVariants.{Text}
+use Rattle.listing.specs.declared.parts.Part.TheVariants.{Byte}
 use Rattle.listing.proofs.Writes.{behind, room}
 use Rattle.listing.proofs.parts.put.Goals as goal
 
 -- what a read past the last part would give
 abbrev blank : Part
-blank = Text 0 (record { ref_ptr = (0, 0); now = [] })
+blank = Byte 0
 
 pub put-end-requires : goal.put-end-requires
 put-end-requires c =
