@@ -6,6 +6,7 @@ use Rattle.std.proofs.lemmas.Bool.{cases_eq, eq-eqb, ne_eqb}
 use Rattle.std.specs.List.{AllByRecursion}
 use Rattle.plan.specs.Rows.{Plan, Row, accesses, row}
 use Rattle.plan.specs.Rules.{Kept, places_of, latency_of}
+use Rattle.plan.proofs.Keeping.{few_banks}
 use Rattle.arbiter.specs.Answers.{Accepts}
 use Rattle.arbiter.specs.Counts.{counted, limit, sum_below}
 use Rattle.arbiter.specs.Laws.{Lawful}
@@ -13,7 +14,7 @@ use Rattle.arbiter.specs.Meaning.{Model}
 use Rattle.arbiter.proofs.Acceptance.{accepts}
 use Rattle.arbiter.proofs.Sums.{sum_below_le}
 use Rattle.date_check.specs.declared.dates.Dates.{Dates}
-use Rattle.date_check.specs.Sound.{load, loads, meets, overlap, dated, services, share, work}
+use Rattle.date_check.specs.Sound.{Fits, load, loads, meets, overlap, dated, services, share, work, worst}
 use Rattle.date_check.proofs.Counting.{loads_length, loads_most}
 use Rattle.date_check.proofs.Reading.{low_latency}
 use Rattle.date_check.proofs.Sums.{sum_below_gap, sum_below_most, sum_below_once, sum_below_swap}
@@ -118,3 +119,8 @@ module _ (p : Plan) (kept : Kept p) (met : ℕ → Bool) where
 -- No task meets itself.
 pub meets_alone : (rows : List Row) (table : List Dates) (i : ℕ) → meets rows table i i ≡ false
 meets_alone rows table i = ap (λ b. not b && overlap (dated table i) (dated table i)) (eq-eqb (row rows i).place (row rows i).place refl)
+
+-- The worst time of a task, where plan, arbiters and table fit.
+pub worst_limit : {S : Type 0} (m : Model S) (laws : Lawful m) (p : Plan) (kept : Kept p) (arbiters : List S) (table : List Dates) (i : ℕ) → Fits m p arbiters table → i < length p.rows → worst m p arbiters table i < 2 ^ 35
+worst_limit m laws p kept arbiters table i fits l =
+    work_limit p kept (meets p.rows table i) m laws arbiters i (omega (arith, fits.one_per_bank, few_banks p.head kept.headed)) fits.wide l (meets_alone p.rows table i)

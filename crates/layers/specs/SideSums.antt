@@ -1,11 +1,12 @@
 -- Sums of counts over two sides.
-use Rattle.std.proofs.Common.{◌≡◌, ℕ, zero, suc, ◌+◌, ◌-◌, ◌<◌, ◌≤◌, Bool, true, cond, not, ltb, ◌≢◌, List, get_or, ap, ◌∙◌, inl, inr, arith}
+use Rattle.std.proofs.Common.{◌≡◌, ℕ, zero, suc, ◌+◌, ◌-◌, ◌<◌, ◌≤◌, Bool, true, false, cond, not, ltb, ◌≢◌, List, get_or, sym, refl, ap, ◌∙◌, inl, inr, add-one, arith}
+use mathlib.Core.Bool.{beq}
 use native.Mathlib.Numerals.{unary_clauses}
 use Rattle.std.proofs.lemmas.Bool.{cases_eq, eq-eqb, ne_eqb, lt-ltb, le-ltb}
 use Rattle.arbiter.specs.Counts.{sum_below, counted, others_sum}
 use Rattle.arbiter.proofs.Flags.{cond_mono}
 use Rattle.arbiter.proofs.Sums.{sum_below_le, sum_below_zero}
-use Rattle.layers.specs.Bounds.{shifted}
+use Rattle.layers.specs.Bounds.{shifted, same_side}
 use Rattle.layers.specs.Shifts.{shifted_at}
 
 -- A sum over both sides.
@@ -55,3 +56,25 @@ others_sum_le mine n s xs ys t h = sum_below_le n (λ o. cond (mine o) 0 (get_or
   where
     each : (o : ℕ) → o < n → cond (mine o) 0 (get_or xs o 0) ≤ cond (mine o) 0 (get_or ys o 0)
     each o i = elim (cases_eq o s) [ inl e ↦ rw (ap mine e ∙ t) (omega arith) | inr ne ↦ cond_mono (mine o) (get_or xs o 0) (get_or ys o 0) (h o i ne) ]
+
+-- The loop that sums the other side.
+pub others_sum_more : (mine : ℕ → Bool) (xs : List ℕ) (o : ℕ) → others_sum mine (o + 1) xs ≡ cond (mine o) 0 (get_or xs o 0) + others_sum mine o xs
+others_sum_more mine xs o = ap (λ k. others_sum mine k xs) (add-one o)
+
+across_side : (x y : Bool) → not (beq x y) ≡ true → cond y x (not x) ≡ false
+across_side true true h = sym h
+across_side true false h = refl
+across_side false true h = refl
+across_side false false h = sym h
+
+own_side : (x y : Bool) → not (beq x y) ≡ false → cond y x (not x) ≡ true
+own_side true true h = refl
+own_side true false h = sym h
+own_side false true h = sym h
+own_side false false h = refl
+
+pub next_other : (n s o sum : ℕ) (xs : List ℕ) → not (beq (ltb o n) (ltb s n)) ≡ true → sum ≡ others_sum (same_side n s) o xs → sum + get_or xs o 0 ≡ others_sum (same_side n s) (o + 1) xs
+next_other n s o sum xs h e = omega (arith, others_sum_more (same_side n s) xs o, ap (λ b. cond b 0 (get_or xs o 0)) (across_side (ltb o n) (ltb s n) h))
+
+pub next_own : (n s o sum : ℕ) (xs : List ℕ) → not (beq (ltb o n) (ltb s n)) ≡ false → sum ≡ others_sum (same_side n s) o xs → sum ≡ others_sum (same_side n s) (o + 1) xs
+next_own n s o sum xs h e = omega (arith, others_sum_more (same_side n s) xs o, ap (λ b. cond b 0 (get_or xs o 0)) (own_side (ltb o n) (ltb s n) h))
