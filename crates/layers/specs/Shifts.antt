@@ -18,7 +18,7 @@ shifted_at n xs q = padded (drop n xs) q ∙ get_or-drop n xs q 0
 pub shifted_length : (n : ℕ) (xs : List ℕ) → n ≤ length xs → length (shifted n xs) ≡ length xs
 shifted_length n xs h = simp (length-append, length-drop, length-replicate) (omega arith)
 
--- The loop that shifts: the counts of the sources from n to below o have their new places.
+-- Shifted count by count: those of the sources from n to below o have their new places.
 abbrev pub Moved : ℕ → ℕ → List ℕ → List ℕ → Type 0
 Moved n o xs ms = (q : ℕ) → get_or ms q 0 ≡ cond (ltb (n + q) o) (get_or xs (n + q) 0) 0
 

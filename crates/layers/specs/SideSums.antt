@@ -57,7 +57,7 @@ others_sum_le mine n s xs ys t h = sum_below_le n (λ o. cond (mine o) 0 (get_or
     each : (o : ℕ) → o < n → cond (mine o) 0 (get_or xs o 0) ≤ cond (mine o) 0 (get_or ys o 0)
     each o i = elim (cases_eq o s) [ inl e ↦ rw (ap mine e ∙ t) (omega arith) | inr ne ↦ cond_mono (mine o) (get_or xs o 0) (get_or ys o 0) (h o i ne) ]
 
--- The loop that sums the other side.
+-- The other side's sum, count by count.
 pub others_sum_more : (mine : ℕ → Bool) (xs : List ℕ) (o : ℕ) → others_sum mine (o + 1) xs ≡ cond (mine o) 0 (get_or xs o 0) + others_sum mine o xs
 others_sum_more mine xs o = ap (λ k. others_sum mine k xs) (add-one o)
 

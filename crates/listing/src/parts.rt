@@ -6,7 +6,7 @@ ghost use Rattle.listing.specs.Parts.{text_of, text_of_all};
 
 use itoa::write_digits;
 
-// One part of a line; a text and a number with the width of its column. What is wider than its column is not cut.
+// One part of a line: a byte, or a text or a number in a column of this width. What is wider than its column is not cut.
 #[derive(Clone, Copy)]
 pub(crate) enum Part<'t> {
     Byte(u8),

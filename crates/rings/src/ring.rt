@@ -39,7 +39,7 @@ impl Ring {
         }
     }
 
-    // The first waiting source in the order of turns, if any.
+    // The first waiting source in the order of turns, if any. From the width on nobody waits, and no flag is looked at.
     fn next(&self) -> Option<usize>
         ensures { FirstWaiting self.now.width self.now.last (ring_waiting self.now) result }
     {
